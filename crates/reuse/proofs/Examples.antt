@@ -1,0 +1,123 @@
+-- Worked examples, computed from the definitions: the figures of 001, and the rows of 01 that need no session.
+use mathlib.Core.Path.{_≡_, refl}
+use Prim.Native.Nat.{ℕ}
+use mathlib.Core.List.{List, [], _∷_, _++_}
+use mathlib.Core.Bool.{Bool, true, false}
+use Rattle.reuse.specs.Lists.{mem, allIn, distinct, remove, inside, outside, before, firsts, cleanup, from, sum, count}
+use Rattle.reuse.specs.Lru.{cold, at, depth, touch, stack, reuses, since, distance, distances, countAt, missesAt}
+use Rattle.reuse.specs.Cache.{lastRead, oldest, evict, admit, hits, cacheHits, cacheMisses}
+use Rattle.reuse.specs.Summary.{words, histogram, summaryOf, readsOf, extentsOf, firstOf, recentOf, countsOf, wellFormed, missesOf, joinedFirst, joinedRecent, shared, across, countFor, joinedCount, joinedCounts, joinOf}
+
+-- 001's trace a b b c b a d c a a
+abbrev trace : List ℕ
+trace = 1 ∷ 2 ∷ 2 ∷ 3 ∷ 2 ∷ 1 ∷ 4 ∷ 3 ∷ 1 ∷ 1 ∷ []
+
+-- figure 1.3: its stack distances
+pub figure-distances : reuses [] trace ≡ cold ∷ cold ∷ at 1 ∷ cold ∷ at 2 ∷ at 3 ∷ cold ∷ at 4 ∷ at 3 ∷ at 1 ∷ []
+unfolding reuses depth touch remove
+figure-distances = refl
+
+-- the same, counted on the trace
+pub figure-counted : distances [] trace ≡ cold ∷ cold ∷ at 1 ∷ cold ∷ at 2 ∷ at 3 ∷ cold ∷ at 4 ∷ at 3 ∷ at 1 ∷ []
+unfolding distances distance since firsts remove mem
+figure-counted = refl
+
+-- figure 1.3: the counters of the distances 1 to 4
+pub figure-counters : histogram trace ≡ 2 ∷ 1 ∷ 2 ∷ 1 ∷ []
+unfolding histogram countAt count firsts from reuses depth touch remove
+figure-counters = refl
+
+-- figure 1.2: the hits of the buffer of capacity 1
+pub figure-one : cacheHits 1 trace ≡ false ∷ false ∷ true ∷ false ∷ false ∷ false ∷ false ∷ false ∷ false ∷ true ∷ []
+unfolding cacheHits hits admit evict oldest lastRead mem remove
+figure-one = refl
+
+-- of capacity 2
+pub figure-two : cacheHits 2 trace ≡ false ∷ false ∷ true ∷ false ∷ true ∷ false ∷ false ∷ false ∷ false ∷ true ∷ []
+unfolding cacheHits hits admit evict oldest lastRead mem remove
+figure-two = refl
+
+-- of capacity 3
+pub figure-three : cacheHits 3 trace ≡ false ∷ false ∷ true ∷ false ∷ true ∷ true ∷ false ∷ false ∷ true ∷ true ∷ []
+unfolding cacheHits hits admit evict oldest lastRead mem remove
+figure-three = refl
+
+-- of capacity 4
+pub figure-four : cacheHits 4 trace ≡ false ∷ false ∷ true ∷ false ∷ true ∷ true ∷ false ∷ true ∷ true ∷ true ∷ []
+unfolding cacheHits hits admit evict oldest lastRead mem remove
+figure-four = refl
+
+-- 001, 3.2: the cleanup of 2 3 5 4 3 5 3 8 2
+pub cleanup-example : cleanup (2 ∷ 3 ∷ 5 ∷ 4 ∷ 3 ∷ 5 ∷ 3 ∷ 8 ∷ 2 ∷ []) ≡ 4 ∷ 5 ∷ 3 ∷ 8 ∷ 2 ∷ []
+unfolding cleanup mem
+cleanup-example = refl
+
+-- the seven reads, cut after the fourth
+abbrev front : List ℕ
+front = 7 ∷ 3 ∷ 7 ∷ 9 ∷ []
+
+abbrev back : List ℕ
+back = 3 ∷ 3 ∷ 9 ∷ []
+
+abbrev seven : List ℕ
+seven = 7 ∷ 3 ∷ 7 ∷ 9 ∷ 3 ∷ 3 ∷ 9 ∷ []
+
+-- their answers
+pub seven-distances : reuses [] seven ≡ cold ∷ cold ∷ at 2 ∷ cold ∷ at 3 ∷ at 1 ∷ at 2 ∷ []
+unfolding reuses depth touch remove
+seven-distances = refl
+
+-- their summary
+pub seven-summary : summaryOf seven ≡ 7 ∷ 3 ∷ 7 ∷ 3 ∷ 9 ∷ 9 ∷ 3 ∷ 7 ∷ 1 ∷ 2 ∷ 1 ∷ []
+unfolding summaryOf words histogram firsts cleanup mem countAt count from reuses depth touch remove
+seven-summary = refl
+
+-- the summary of the first four
+pub front-summary : summaryOf front ≡ 4 ∷ 3 ∷ 7 ∷ 3 ∷ 9 ∷ 9 ∷ 7 ∷ 3 ∷ 0 ∷ 1 ∷ 0 ∷ []
+unfolding summaryOf words histogram firsts cleanup mem countAt count from reuses depth touch remove
+front-summary = refl
+
+-- the summary of the last three
+pub back-summary : summaryOf back ≡ 3 ∷ 2 ∷ 3 ∷ 9 ∷ 9 ∷ 3 ∷ 1 ∷ 0 ∷ []
+unfolding summaryOf words histogram firsts cleanup mem countAt count from reuses depth touch remove
+back-summary = refl
+
+-- the join of those two
+pub seven-join : joinOf (4 ∷ 3 ∷ 7 ∷ 3 ∷ 9 ∷ 9 ∷ 7 ∷ 3 ∷ 0 ∷ 1 ∷ 0 ∷ []) (3 ∷ 2 ∷ 3 ∷ 9 ∷ 9 ∷ 3 ∷ 1 ∷ 0 ∷ []) ≡ 7 ∷ 3 ∷ 7 ∷ 3 ∷ 9 ∷ 9 ∷ 3 ∷ 7 ∷ 1 ∷ 2 ∷ 1 ∷ []
+unfolding joinOf words joinedFirst joinedRecent joinedCounts joinedCount countFor shared across readsOf extentsOf firstOf recentOf countsOf from before inside outside count firsts remove mem
+seven-join = refl
+
+-- the join of two empty traces' summaries
+pub empty-join : joinOf (0 ∷ 0 ∷ []) (0 ∷ 0 ∷ []) ≡ 0 ∷ 0 ∷ []
+unfolding joinOf words joinedFirst joinedRecent joinedCounts joinedCount countFor shared across readsOf extentsOf firstOf recentOf countsOf from before inside outside count firsts remove mem
+empty-join = refl
+
+-- 1 2 joined to 2 1
+pub turned-join : joinOf (summaryOf (1 ∷ 2 ∷ [])) (summaryOf (2 ∷ 1 ∷ [])) ≡ 4 ∷ 2 ∷ 1 ∷ 2 ∷ 1 ∷ 2 ∷ 1 ∷ 1 ∷ []
+unfolding joinOf words joinedFirst joinedRecent joinedCounts joinedCount countFor shared across readsOf extentsOf firstOf recentOf countsOf from before inside outside count firsts remove mem summaryOf histogram cleanup countAt reuses depth touch
+turned-join = refl
+
+-- the misses of the seven reads from their summary, at 0, 2 and 9
+pub seven-misses : let w : List ℕ = 7 ∷ 3 ∷ 7 ∷ 3 ∷ 9 ∷ 9 ∷ 3 ∷ 7 ∷ 1 ∷ 2 ∷ 1 ∷ [] in
+    (missesOf w 0 ≡ 7) × (missesOf w 2 ≡ 4) × (missesOf w 9 ≡ 3)
+unfolding missesOf extentsOf countsOf sum
+seven-misses = (refl, refl, refl)
+
+-- the same, of the cache
+pub seven-cache : (cacheMisses 0 seven ≡ 7) × (cacheMisses 2 seven ≡ 4) × (cacheMisses 9 seven ≡ 3)
+unfolding cacheMisses cacheHits count hits admit evict oldest lastRead mem remove
+seven-cache = (refl, refl, refl)
+
+-- the summary is well formed
+pub seven-formed : wellFormed (7 ∷ 3 ∷ 7 ∷ 3 ∷ 9 ∷ 9 ∷ 3 ∷ 7 ∷ 1 ∷ 2 ∷ 1 ∷ []) ≡ true
+unfolding wellFormed distinct allIn sum readsOf extentsOf firstOf recentOf countsOf mem
+seven-formed = refl
+
+-- words with one fault each: a word too few, F with an extent twice, R without one of F, R with one not of F, H that does not add up
+pub faults-refused : (wellFormed (2 ∷ 2 ∷ 5 ∷ 6 ∷ 6 ∷ 5 ∷ 0 ∷ []) ≡ false)
+    × (wellFormed (2 ∷ 2 ∷ 5 ∷ 5 ∷ 5 ∷ 5 ∷ 0 ∷ 0 ∷ []) ≡ false)
+    × (wellFormed (2 ∷ 2 ∷ 5 ∷ 6 ∷ 5 ∷ 5 ∷ 0 ∷ 0 ∷ []) ≡ false)
+    × (wellFormed (2 ∷ 2 ∷ 5 ∷ 6 ∷ 5 ∷ 7 ∷ 0 ∷ 0 ∷ []) ≡ false)
+    × (wellFormed (3 ∷ 2 ∷ 5 ∷ 6 ∷ 6 ∷ 5 ∷ 0 ∷ 0 ∷ []) ≡ false)
+unfolding wellFormed distinct allIn sum readsOf extentsOf firstOf recentOf countsOf mem
+faults-refused = (refl, refl, refl, refl, refl)

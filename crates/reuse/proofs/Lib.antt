@@ -1,0 +1,16 @@
+pub mod Lists
+pub mod Distinct
+pub mod Sizes
+pub mod Stack
+pub mod Depth
+pub mod Cache
+pub mod Counts
+pub mod Across
+pub mod Words
+pub mod Join
+pub mod Monoid
+pub mod Formed
+pub mod Misses
+pub mod Passes
+pub mod Engine
+pub mod Examples

@@ -1,0 +1,79 @@
+-- Misses: of the cache, by the distances, and from a summary's words.
+use mathlib.Core.Path.{_≡_, refl, sym, ap, _∙_, fun-ext}
+use Prim.Native.Nat.{ℕ, suc, _+_, _-_, _≤_}
+use native.Mathlib.Omega.{arith}
+use mathlib.Core.List.{List, [], _∷_, _++_, map, append-nil, append-assoc}
+use mathlib.Core.Bool.{Bool, true, false, not}
+use lib.Dec.{leb, ltb}
+use lib.ListN.{length, drop, length-append}
+use borrow.Author.Tests.{leb-true, leb-false, lt-ltb, le-ltb}
+use Rattle.reuse.specs.Lists.{mem, firsts, from, sum, count}
+use Rattle.reuse.specs.Lru.{Reuse, cold, at, depth, touch, stack, reuses, isCold, isAbove, within, countAt, missesAt}
+use Rattle.reuse.specs.Cache.{cacheHits, cacheMisses}
+use Rattle.reuse.specs.Summary.{histogram, summaryOf, readsOf, countsOf, hitsOf, missesOf}
+use Rattle.reuse.proofs.Lists.{by-test, firsts-known, firsts-new}
+use Rattle.reuse.proofs.Stack.{stack-snoc, mem-stack}
+use Rattle.reuse.proofs.Depth.{depth-absent, depth-present}
+use Rattle.reuse.proofs.Cache.{cache-law}
+use Rattle.reuse.proofs.Counts.{finite, count-finite, above-finite, sum-counts, sum-split, drop-from}
+use Rattle.reuse.proofs.Words.{extents-summary, counts-summary}
+use Rattle.reuse.proofs.Join.{reuse-range}
+use Rattle.reuse.proofs.Formed.{Formed}
+
+-- answers that are no hits at size c are cold, or distances above c
+misses-count : (c : ℕ) (rs : List Reuse) → count not (map (within c) rs) ≡ missesAt c rs
+unfolding count missesAt
+misses-count c [] = refl
+misses-count c (cold ∷ rs) = let i : count not (map (within c) rs) ≡ count isCold rs + count (isAbove c) rs = misses-count c rs in omega arith
+misses-count c (at d ∷ rs) =
+    let i : count not (map (within c) rs) ≡ count isCold rs + count (isAbove c) rs = misses-count c rs in
+    by-test (leb d c)
+    (λ e. let g : ltb c d ≡ false = le-ltb c d (leb-true d c e) in simp (e, g) i)
+    (λ e. let g : ltb c d ≡ true = lt-ltb c d (leb-false d c e) in simp (e, g) (omega arith))
+
+-- the misses of the cache of size c are the cold reads plus the reads of distance above c
+pub cache-misses : (c : ℕ) (t : List ℕ) → cacheMisses c t ≡ missesAt c (reuses [] t)
+unfolding cacheMisses
+cache-misses c t = rw (cache-law c t) (misses-count c (reuses [] t))
+
+-- cold reads after the reads a: the extents that are new
+cold-from : (a b : List ℕ) → length (firsts a) + count isCold (reuses (stack a) b) ≡ length (firsts (a ++ b))
+unfolding reuses count
+cold-from a [] = rw (append-nil a) (omega arith)
+cold-from a (x ∷ b) =
+    let i : length (firsts (a ++ (x ∷ []))) + count isCold (reuses (touch (stack a) x) b) ≡ length (firsts (a ++ (x ∷ b))) =
+    rw (stack-snoc a x, append-assoc a (x ∷ []) b) at (cold-from (a ++ (x ∷ [])) b) in
+    by-test (mem x a)
+    (λ m. simp (depth-present x (stack a) (mem-stack x a ∙ m)) (rw (firsts-known x a m) at i))
+    (λ m. simp (depth-absent x (stack a) (mem-stack x a ∙ m)) (omega (arith, simp (firsts-new x a m, length-append) at i)))
+
+-- the cold reads of a trace are as many as its different extents
+pub cold-count : (t : List ℕ) → count isCold (reuses [] t) ≡ length (firsts t)
+cold-count t = let i : 0 + count isCold (reuses [] t) ≡ length (firsts t) = unfold firsts stack in cold-from [] t in omega arith
+
+-- the words of H for distances above c add up to the reads of such distances
+pub above-count : (c : ℕ) (t : List ℕ) → sum (drop c (histogram t)) ≡ count (isAbove c) (reuses [] t)
+unfolding histogram
+above-count c t =
+    let rs : List Reuse = reuses [] t in
+    let v : ℕ = length (firsts t) in
+    let e : 1 + c ≡ suc c = omega arith in
+    ap sum (drop-from (countAt rs) c 1 v)
+    ∙ rw e
+    (ap (λ (f : ℕ → ℕ). sum (map f (from (suc c) (v - c)))) (fun-ext (count-finite rs))
+    ∙ sum-counts (finite rs) c (v - c) (λ d m. omega (arith, reuse-range t d m))
+    ∙ sym (above-finite rs c))
+
+-- the misses from a trace's summary are its cold reads plus its reads of distance above c
+pub summary-misses : (c : ℕ) (t : List ℕ) → missesOf (summaryOf t) c ≡ missesAt c (reuses [] t)
+unfolding missesOf missesAt
+summary-misses c t = rw (extents-summary t, counts-summary t, above-count c t, cold-count t)
+
+-- so they are the misses of the cache
+pub summary-cache : (c : ℕ) (t : List ℕ) → missesOf (summaryOf t) c ≡ cacheMisses c t
+summary-cache c t = summary-misses c t ∙ sym (cache-misses c t)
+
+-- the hits and the misses of well-formed words make up the reads
+pub hits-misses : (c : ℕ) (w : List ℕ) → Formed w → hitsOf w c + missesOf w c ≡ readsOf w
+unfolding hitsOf missesOf
+hits-misses c w f = omega (arith, sum-split c (countsOf w), f .total)

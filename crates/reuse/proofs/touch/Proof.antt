@@ -1,0 +1,114 @@
+-- `reuse::touch` meets its contract. The invariant is `Sunk`.
+use mathlib.Core.Path.{refl, sym, _∙_}
+use Prim.Native.Nat.{_-_, _≤_, _<_}
+use native.Mathlib.Omega.{arith}
+use native.Mathlib.Numerals.{add-one}
+use lib.ListN.{length, length-set}
+use borrow.Author.Tests.{lt-leb}
+use Rattle.reuse.specs.Engine.{placeOf, lifted}
+use Rattle.reuse.proofs.Passes.{Sunk, sink-start, sink-turn, sink-found, sink-set, sink-last, sink-cold, sink-full, sink-back, sunk-length}
+use borrow.Author.Needs.{needs}
+use Rattle.reuse.proofs.touch.Statement.{statement}
+use Rattle.reuse.proofs.touch.Tie as tie
+
+abbrev Inv-loop : tie.InvT-loop
+Inv-loop stack₀ n x carry₀ i₀ stack carry i = Sunk stack₀ x n stack carry i
+
+abbrev μ-loop : tie.MeasureT-loop
+μ-loop stack₀ n x carry₀ i₀ stack carry i = n - i
+
+returns : tie.Need-returns Inv-loop μ-loop
+unfolding placeOf
+returns c = (sym (simp (lt-leb _ _ (c .if1 .taken))), refl)
+
+loop-holds : tie.Need-loop-holds Inv-loop μ-loop
+loop-holds c = sink-start _ _ _ (omega arith)
+
+mul-y : tie.Need-mul-y Inv-loop μ-loop
+mul-y c = search needs
+
+slice-read-y : tie.Need-slice-read-y Inv-loop μ-loop
+slice-read-y c = let h = c .before .before .loop .inv in omega (arith, sunk-length _ _ _ _ _ _ h, h .fits)
+
+mul-stack : tie.Need-mul-stack Inv-loop μ-loop
+mul-stack c = search needs
+
+slice-write-stack : tie.Need-slice-write-stack Inv-loop μ-loop
+slice-write-stack c = let h = c .before .before .loop .inv in omega (arith, sunk-length _ _ _ _ _ _ h, h .fits)
+
+add-t14 : tie.Need-add-t14 Inv-loop μ-loop
+add-t14 c = search needs
+
+same-length : tie.Need-same-length Inv-loop μ-loop
+same-length c = let h = c .before .before .before .loop .inv in simp length-set (sunk-length _ _ _ _ _ _ h)
+
+returns-2 : tie.Need-returns-2 Inv-loop μ-loop
+unfolding lifted
+returns-2 c =
+    let h = c .before .before .before .loop .inv in
+    let l : c .before .before .before .loop .i < length (c .before .before .before .before .before .before .args .stack .now) = omega (arith, h .fits) in
+    rw (add-one (c .before .before .before .loop .i)) (sym (sink-found _ _ _ _ _ _ h (omega arith) (c .if2 .taken)), sink-set _ _ _ _ _ _ h l)
+
+add-i : tie.Need-add-i Inv-loop μ-loop
+add-i c = search needs
+
+loop-less : tie.Need-loop-less Inv-loop μ-loop
+loop-less c = search needs
+
+loop-again : tie.Need-loop-again Inv-loop μ-loop
+loop-again c = rw (add-one (c .before .before .before .loop .i)) (sink-turn _ _ _ _ _ _ (c .before .before .before .loop .inv) (omega arith) (c .if2 .left))
+
+mul-stack-2 : tie.Need-mul-stack-2 Inv-loop μ-loop
+mul-stack-2 c = search needs
+
+slice-write-stack-2 : tie.Need-slice-write-stack-2 Inv-loop μ-loop
+slice-write-stack-2 c = search needs
+
+same-length-2 : tie.Need-same-length-2 Inv-loop μ-loop
+same-length-2 c = simp length-set (sunk-length _ _ _ _ _ _ (c .before .before .loop .inv))
+
+returns-3 : tie.Need-returns-3 Inv-loop μ-loop
+returns-3 c =
+    let h = c .before .before .loop .inv in
+    let a = c .before .before .before .before .before .args in
+    let l : a .n < length (a .stack .now) = omega (arith, sunk-length _ _ _ _ _ _ h) in
+    (sym (sink-cold _ _ _ _ _ _ h (omega arith) l), sink-last _ _ _ _ _ _ h (omega arith) l)
+
+move-back-requires : tie.Need-move-back-requires Inv-loop μ-loop
+move-back-requires c κs = search needs
+
+same-length-3 : tie.Need-same-length-3 Inv-loop μ-loop
+same-length-3 c = c .before .before .move-back .kept .0 ∙ sunk-length _ _ _ _ _ _ (c .before .before .before .before .before .before .loop .inv)
+
+returns-4 : tie.Need-returns-4 Inv-loop μ-loop
+returns-4 c =
+    let h = c .before .before .before .before .before .before .loop .inv in
+    let a = c .before .before .before .before .before .before .before .before .before .args in
+    let l : length (a .stack .now) ≤ a .n = omega (arith, sunk-length _ _ _ _ _ _ h) in
+    (sym (sink-full _ _ _ _ _ _ h (omega arith) l), c .before .before .move-back .ensures ∙ sink-back _ _ _ _ _ _ h (omega arith) l)
+
+pub touch-spec : {M : Type 1} → statement M
+touch-spec =
+    tie.close
+    (tie.spec
+    Inv-loop
+    μ-loop
+    returns
+    loop-holds
+    mul-y
+    slice-read-y
+    mul-stack
+    slice-write-stack
+    add-t14
+    same-length
+    returns-2
+    add-i
+    loop-less
+    loop-again
+    mul-stack-2
+    slice-write-stack-2
+    same-length-2
+    returns-3
+    move-back-requires
+    same-length-3
+    returns-4)

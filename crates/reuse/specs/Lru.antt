@@ -1,0 +1,77 @@
+-- Reuse distances: the place in the published LRU stack, and the same number counted on the trace.
+use Prim.Native.Nat.{ℕ, suc, _+_}
+use mathlib.Core.List.{List, [], _∷_, _++_, foldl}
+use mathlib.Core.Bool.{Bool, true, false, cond}
+use lib.Dec.{eqb, leb, ltb}
+use lib.ListN.{length}
+use Rattle.reuse.specs.Lists.{mem, remove, firsts, count}
+
+-- a read's answer: the extent was not read before (001 writes an infinite distance), or its distance
+pub data Reuse : Type 0 where
+  cold : Reuse
+  at : ℕ → Reuse
+
+-- one place further down
+abbrev pub deeper : Reuse → Reuse
+deeper cold = cold
+deeper (at d) = at (suc d)
+
+-- the place of x in the stack, 1 at the top: its stack distance (001, 1.3)
+unfoldable pub depth : List ℕ → ℕ → Reuse
+depth [] x = cold
+depth (y ∷ ys) x = cond (eqb x y) (at 1) (deeper (depth ys x))
+
+-- x comes to the top, the others keep their order (001, 1.3 and 2.2)
+unfoldable pub touch : List ℕ → ℕ → List ℕ
+touch s x = x ∷ remove x s
+
+-- the stack after a trace, the newest read on top
+unfoldable pub stack : List ℕ → List ℕ
+stack t = foldl touch [] t
+
+-- the answers to the reads of a trace from the stack s on, each from the stack that the reads before it left
+unfoldable pub reuses : List ℕ → List ℕ → List Reuse
+reuses s [] = []
+reuses s (x ∷ xs) = depth s x ∷ reuses (touch s x) xs
+
+-- the reads from the last read of x on; none where x was not read
+unfoldable pub since : ℕ → List ℕ → List ℕ
+since x [] = []
+since x (y ∷ ys) = cond (mem x ys) (since x ys) (cond (eqb x y) (y ∷ ys) [])
+
+-- the answer to a read of x after the reads `seen`: the number of different extents from the last read of x on
+unfoldable pub distance : List ℕ → ℕ → Reuse
+distance seen x = cond (mem x seen) (at (length (firsts (since x seen)))) cold
+
+-- the answers to the reads of a trace after the reads `seen`, counted on the trace
+unfoldable pub distances : List ℕ → List ℕ → List Reuse
+distances seen [] = []
+distances seen (x ∷ xs) = distance seen x ∷ distances (seen ++ (x ∷ [])) xs
+
+-- the answer is cold
+abbrev pub isCold : Reuse → Bool
+isCold cold = true
+isCold (at d) = false
+
+-- the answer is the distance d
+abbrev pub isAt : ℕ → Reuse → Bool
+isAt d cold = false
+isAt d (at e) = eqb d e
+
+-- the answer is a distance of at most c
+abbrev pub within : ℕ → Reuse → Bool
+within c cold = false
+within c (at d) = leb d c
+
+-- the answer is a distance above c
+abbrev pub isAbove : ℕ → Reuse → Bool
+isAbove c cold = false
+isAbove c (at d) = ltb c d
+
+-- how many of the answers are the distance d
+unfoldable pub countAt : List Reuse → ℕ → ℕ
+countAt rs d = count (isAt d) rs
+
+-- misses at size c, by the answers: cold reads plus reads of distance above c
+unfoldable pub missesAt : ℕ → List Reuse → ℕ
+missesAt c rs = count isCold rs + count (isAbove c) rs

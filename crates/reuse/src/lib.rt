@@ -1,0 +1,79 @@
+// Reuse distances: the definitions, their laws, and the engine of all batch work, an LRU stack in a lent slice.
+ghost use mathlib.Core.Path.{_≡_};
+ghost use mathlib.Core.List.{[], _∷_, _++_};
+ghost use lib.ListN.{drop};
+ghost use Rattle.reuse.specs.Limits.{maxReads, maxExtents};
+ghost use Rattle.reuse.specs.Engine.{placeOf, leftBy};
+
+// The most reads of a trace.
+pub const MAX_READS: u32 = 1048576;
+// The most different extents of a trace.
+pub const MAX_EXTENTS: usize = 256;
+
+// The limits that the code works with.
+pub struct Bounds {
+    pub reads: u32,
+    pub extents: usize,
+}
+
+// The limits, for callers that size their buffers by them.
+pub fn limits() -> Bounds
+    ensures { λ r. ⌜ r ≡ record { reads = maxReads; extents = maxExtents } ⌝ }
+{
+    Bounds {
+        reads: MAX_READS,
+        extents: MAX_EXTENTS,
+    }
+}
+
+// Where an extent stood in a stack of n extents, before it came to the top.
+pub enum Place {
+    // nowhere: it is now one more
+    Cold,
+    // at this place, 1 at the top
+    Depth(usize),
+    // nowhere, and there is no room for one more: the stack is as it was
+    Full,
+    // the slice has fewer than n words: it is as it was
+    BadCount,
+}
+
+// x comes to the top of the stack in the first n words: looked for from the top, what is passed moves one place down.
+pub fn touch(stack: &mut [u32], n: usize, x: u32) -> Place
+    ensures { λ r. ⌜ (r ≡ placeOf (now (stack .entry)) n x) × (now (stack .exit) ≡ leftBy r n x (now (stack .entry))) ⌝ }
+{
+    if stack.len() < n {
+        return Place::BadCount;
+    }
+    let mut carry = x;
+    let mut i: usize = 0;
+    while i < n {
+        let y = stack[i];
+        stack[i] = carry;
+        if y == x {
+            return Place::Depth(i + 1);
+        }
+        carry = y;
+        i = i + 1;
+    }
+    if n < stack.len() {
+        stack[n] = carry;
+        return Place::Cold;
+    }
+    move_back(stack, carry);
+    Place::Full
+}
+
+// Each word moves one place up, the first is lost, and `last` comes in below.
+fn move_back(stack: &mut [u32], last: u32)
+    ensures { λ _. ⌜ now (stack .exit) ≡ drop 1 (now (stack .entry) ++ (last ∷ [])) ⌝ }
+{
+    let mut carry = last;
+    let mut i = stack.len();
+    while 0 < i {
+        i = i - 1;
+        let y = stack[i];
+        stack[i] = carry;
+        carry = y;
+    }
+}
