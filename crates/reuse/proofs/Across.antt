@@ -1,6 +1,6 @@
 -- A trace read after the stack of another: its own distances, and those of its first reads.
 use mathlib.Core.Path.{_≡_, refl, sym, ap, ap₂, _∙_}
-use Prim.Native.Nat.{ℕ, suc, _+_, _≤_, _<_}
+use Prim.Native.Nat.{ℕ, suc, _+_, _≤_}
 use native.Mathlib.Omega.{arith}
 use mathlib.Core.List.{List, [], _∷_, _++_, map, foldl, append-nil, append-assoc, foldl-append}
 use mathlib.Core.Bool.{true, false, cond, _||_, or-true}

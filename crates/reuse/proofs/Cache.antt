@@ -3,7 +3,7 @@ use mathlib.Core.Path.{_≡_, refl, sym, ap, ap₂, _∙_}
 use Prim.Native.Nat.{ℕ, zero, suc, _≤_, _<_, min}
 use native.Mathlib.Omega.{arith}
 use mathlib.Core.List.{List, [], _∷_, _++_, map, append-nil, append-assoc}
-use mathlib.Core.Bool.{Bool, true, false, cond, _||_, or-true, or-false, and-false}
+use mathlib.Core.Bool.{Bool, true, false, _||_, or-true, or-false, and-false}
 use lib.Dec.{eqb, ltb, leb·suc-suc, leb·zero, leb·suc-zero}
 use lib.ListN.{length, take, getD, length-take}
 use lib.Seq.{take-all, take-suc, take-take, split-at, take-nil}
@@ -11,7 +11,7 @@ use borrow.Author.Tests.{eqb-true, ltb-true, ltb-false}
 use Rattle.reuse.specs.Lists.{mem, remove, before, distinct, outside, firsts}
 use Rattle.reuse.specs.Lru.{Reuse, cold, at, deeper, depth, touch, stack, reuses, distance, within}
 use Rattle.reuse.specs.Cache.{lastRead, oldest, evict, admit, hits, holds, cacheHits, cacheAfter}
-use Rattle.reuse.proofs.Lists.{by-test, clash, mem-head, mem-tail, eqb-same, mem-append, mem-remove, remove-absent}
+use Rattle.reuse.proofs.Lists.{by-test, clash, mem-tail, eqb-same, mem-append, mem-remove, remove-absent}
 use Rattle.reuse.proofs.Distinct.{distinct-head, distinct-tail, distinct-cons, distinct-remove, distinct-middle}
 use Rattle.reuse.proofs.Stack.{stack-cons, stack-snoc, mem-stack, length-stack, distinct-stack}
 use Rattle.reuse.proofs.Depth.{before-append, before-mem, distance-law}

@@ -5,12 +5,12 @@ use native.Mathlib.Omega.{arith}
 use native.Mathlib.Nat.{zero-add, suc-add, add-zero, add-suc}
 use mathlib.Core.Logic.{_≢_}
 use mathlib.Core.List.{List, [], _∷_, _++_, map}
-use mathlib.Core.Bool.{Bool, true, false, cond, not}
+use mathlib.Core.Bool.{Bool, true, false, cond}
 use lib.Dec.{eqb, ltb}
 use lib.ListN.{length, take, drop, getD}
-use borrow.Author.Tests.{eqb-true, eqb-false, ne-eqb, ltb-true, ltb-false, lt-ltb, le-ltb}
+use borrow.Author.Tests.{eqb-true, eqb-false, ne-eqb, ltb-true, ltb-false}
 use Rattle.reuse.specs.Lists.{mem, from, sum, count}
-use Rattle.reuse.specs.Lru.{Reuse, cold, at, isCold, isAt, isAbove, countAt}
+use Rattle.reuse.specs.Lru.{Reuse, cold, at, isAt, isAbove, countAt}
 use Rattle.reuse.specs.Summary.{countFor}
 use Rattle.reuse.proofs.Lists.{by-test, clash, mem-head, mem-tail}
 

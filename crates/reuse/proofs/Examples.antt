@@ -1,10 +1,10 @@
 -- Worked examples, computed from the definitions: the figures of 001, and the rows of 01 that need no session.
 use mathlib.Core.Path.{_≡_, refl}
 use Prim.Native.Nat.{ℕ}
-use mathlib.Core.List.{List, [], _∷_, _++_}
-use mathlib.Core.Bool.{Bool, true, false}
+use mathlib.Core.List.{List, [], _∷_}
+use mathlib.Core.Bool.{true, false}
 use Rattle.reuse.specs.Lists.{mem, allIn, distinct, remove, inside, outside, before, firsts, cleanup, from, sum, count}
-use Rattle.reuse.specs.Lru.{cold, at, depth, touch, stack, reuses, since, distance, distances, countAt, missesAt}
+use Rattle.reuse.specs.Lru.{cold, at, depth, touch, reuses, since, distance, distances, countAt}
 use Rattle.reuse.specs.Cache.{lastRead, oldest, evict, admit, hits, cacheHits, cacheMisses}
 use Rattle.reuse.specs.Summary.{words, histogram, summaryOf, readsOf, extentsOf, firstOf, recentOf, countsOf, wellFormed, missesOf, joinedFirst, joinedRecent, shared, across, countFor, joinedCount, joinedCounts, joinOf}
 

@@ -2,16 +2,16 @@
 use mathlib.Core.Path.{_≡_, refl, sym, ap, _∙_}
 use Prim.Native.Nat.{ℕ, _+_, _*_, _≤_}
 use native.Mathlib.Omega.{arith}
-use mathlib.Core.List.{List, [], _∷_, _++_, map, foldl}
-use mathlib.Core.Bool.{Bool, true, false, _||_, or-true, or-comm}
+use mathlib.Core.List.{List, [], _∷_, map, foldl}
+use mathlib.Core.Bool.{true, _||_, or-true, or-comm}
 use lib.Dec.{eqb, ltb}
-use lib.ListN.{length, length-append, length-map, getD}
+use lib.ListN.{length, length-append, length-map}
 use borrow.Author.Tests.{eqb-true, eq-eqb, leb-true, le-leb, lt-ltb}
 use Rattle.reuse.specs.Limits.{maxReads, maxExtents}
 use Rattle.reuse.specs.Lists.{mem, remove, firsts, cleanup, distinct, outside, from, sum, count}
-use Rattle.reuse.specs.Lru.{cold, depth, touch, reuses, isAt, countAt}
+use Rattle.reuse.specs.Lru.{depth, touch, reuses, countAt}
 use Rattle.reuse.specs.Summary.{words, histogram, summaryOf, wellFormed, readsOf, extentsOf, firstOf, recentOf, countsOf, joinedFirst, joinedRecent, shared, across, countFor, joinedCount, joinedCounts, joinOf}
-use Rattle.reuse.proofs.Lists.{by-test, both, mem-firsts, remove-absent, mem-beside}
+use Rattle.reuse.proofs.Lists.{by-test, both, remove-absent, mem-beside}
 use Rattle.reuse.proofs.Distinct.{distinct-firsts, length-remove, distinct-beside}
 use Rattle.reuse.proofs.Sizes.{fewer, same-size, full-distinct, full-same, all-in, in-all, length-split}
 use Rattle.reuse.proofs.Stack.{distinct-from}

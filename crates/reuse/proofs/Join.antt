@@ -2,7 +2,7 @@
 use mathlib.Core.Path.{_≡_, refl, sym, ap, ap₂, _∙_, fun-ext}
 use Prim.Native.Nat.{ℕ, zero, suc, _+_, _≤_}
 use native.Mathlib.Omega.{arith}
-use mathlib.Core.List.{List, [], _∷_, _++_, map, reverse}
+use mathlib.Core.List.{List, [], _++_, map, reverse}
 use mathlib.Core.Bool.{true}
 use lib.ListN.{length, length-append}
 use Rattle.reuse.specs.Lists.{mem, firsts, cleanup, distinct, from, count}

@@ -13,4 +13,5 @@ pub mod Formed
 pub mod Misses
 pub mod Passes
 pub mod Engine
+pub mod Slices
 pub mod Examples

@@ -1,15 +1,15 @@
 -- Misses: of the cache, by the distances, and from a summary's words.
 use mathlib.Core.Path.{_≡_, refl, sym, ap, _∙_, fun-ext}
-use Prim.Native.Nat.{ℕ, suc, _+_, _-_, _≤_}
+use Prim.Native.Nat.{ℕ, suc, _+_, _-_}
 use native.Mathlib.Omega.{arith}
 use mathlib.Core.List.{List, [], _∷_, _++_, map, append-nil, append-assoc}
-use mathlib.Core.Bool.{Bool, true, false, not}
+use mathlib.Core.Bool.{true, false, not}
 use lib.Dec.{leb, ltb}
 use lib.ListN.{length, drop, length-append}
 use borrow.Author.Tests.{leb-true, leb-false, lt-ltb, le-ltb}
 use Rattle.reuse.specs.Lists.{mem, firsts, from, sum, count}
-use Rattle.reuse.specs.Lru.{Reuse, cold, at, depth, touch, stack, reuses, isCold, isAbove, within, countAt, missesAt}
-use Rattle.reuse.specs.Cache.{cacheHits, cacheMisses}
+use Rattle.reuse.specs.Lru.{Reuse, cold, at, touch, stack, reuses, isCold, isAbove, within, countAt, missesAt}
+use Rattle.reuse.specs.Cache.{cacheMisses}
 use Rattle.reuse.specs.Summary.{histogram, summaryOf, readsOf, countsOf, hitsOf, missesOf}
 use Rattle.reuse.proofs.Lists.{by-test, firsts-known, firsts-new}
 use Rattle.reuse.proofs.Stack.{stack-snoc, mem-stack}

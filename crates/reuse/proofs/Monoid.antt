@@ -2,7 +2,7 @@
 use mathlib.Core.Path.{_≡_, refl, sym, ap, _∙_}
 use Prim.Native.Nat.{ℕ, suc, _+_, _*_}
 use native.Mathlib.Omega.{arith}
-use mathlib.Core.List.{List, [], _∷_, _++_, map, append-nil, append-assoc}
+use mathlib.Core.List.{List, [], _∷_, map, append-nil, append-assoc}
 use lib.ListN.{length, getD}
 use Rattle.reuse.specs.Lists.{mem, firsts, cleanup, inside, outside, from, count}
 use Rattle.reuse.specs.Summary.{words, histogram, summaryOf, readsOf, extentsOf, firstOf, recentOf, countsOf, joinedFirst, joinedRecent, shared, countFor, joinedCount, joinedCounts, joinOf}

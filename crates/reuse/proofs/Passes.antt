@@ -1,7 +1,8 @@
 -- The engine's two passes: words moved down from the top, and words moved up again.
 use mathlib.Core.Path.{_≡_, refl, sym, ap, _∙_}
-use Prim.Native.Nat.{ℕ, suc, _≤_, _<_}
+use Prim.Native.Nat.{ℕ, suc, _+_, _≤_, _<_}
 use native.Mathlib.Omega.{arith}
+use native.Mathlib.Numerals.{add-one}
 use mathlib.Core.List.{List, [], _∷_, _++_, append-assoc, append-nil}
 use mathlib.Core.Bool.{false}
 use lib.ListN.{length, take, drop, getD, set, length-append, length-take, length-drop, drop-of-length-le, List·getD-append}
@@ -91,45 +92,53 @@ module _ (s : List ℕ) (x n : ℕ) where
     sink-next : i < length s → row ≡ take i (x ∷ s) ++ (getD s i 0 ∷ drop (suc i) s)
     sink-next l = h .moved ∙ rw (drop-cons s i 0 l)
 
+    -- it is the word of s at that place
     pub sink-here : i < length s → getD row i 0 ≡ getD s i 0
     sink-here l = rw (sink-next l) (getD-at (take i (x ∷ s)) (getD s i 0) (drop (suc i) s) 0 i (length-moved (omega arith)))
 
     -- the word in hand put there
-    pub sink-set : i < length s → set row i carry ≡ take (suc i) (x ∷ s) ++ drop (suc i) s
+    sink-set : i < length s → set row i carry ≡ take (suc i) (x ∷ s) ++ drop (suc i) s
     sink-set l =
         let t : take (suc i) (x ∷ s) ≡ take i (x ∷ s) ++ (getD (x ∷ s) i 0 ∷ []) = take-suc (x ∷ s) i 0 (omega arith) in
         rw (sink-next l, set-at (take i (x ∷ s)) (getD s i 0) (drop (suc i) s) carry i (length-moved (omega arith)), h .hand)
         (sym (ap (λ (r : List ℕ). r ++ drop (suc i) s) t ∙ simp append-assoc))
 
     -- one word that is not x
-    pub sink-turn : i < n → (getD row i 0 ≡ x → ⊥) → Sunk s x n (set row i carry) (getD row i 0) (suc i)
+    pub sink-turn : i < n → (getD row i 0 ≡ x → ⊥) → Sunk s x n (set row i carry) (getD row i 0) (i + 1)
     unfolding mem
     sink-turn l other =
         let w : i < length s = omega (arith, h .fits) in
-        record {
+        rw (add-one i) (record {
           within = omega arith;
           fits = h .fits;
           moved = sink-set w;
           hand = sink-here w;
           passed = rw (take-suc s i 0 w) (simp (mem-append, h .passed, ne-eqb x (getD s i 0) (λ e. other (sink-here w ∙ sym e))));
-        }
+        })
 
     -- x is found
-    pub sink-found : i < n → getD row i 0 ≡ x → placeOf s n x ≡ Depth (suc i)
+    pub sink-found : i < n → getD row i 0 ≡ x → Depth (i + 1) ≡ placeOf s n x
     unfolding placeOf
     sink-found l e =
         let w : i < length s = omega (arith, h .fits) in
         let t : take i (take n s) ≡ take i s = take-take i n s (omega arith) in
-        simp (
+        rw (add-one i)
+        (simp (
           le-leb n (length s) (h .fits),
           depth-at x (take n s) i (simp length-take (omega arith)) (rw t (h .passed)) (getD-take n s i 0 l ∙ sym (sink-here w) ∙ e),
-        )
+        ))
+
+    -- and its place filled
+    pub sink-lifted : i < n → set row i carry ≡ lifted (i + 1) x s
+    unfolding lifted
+    sink-lifted l = rw (add-one i) (sink-set (omega (arith, h .fits)))
 
     -- x is not among the n
     pub sink-absent : n ≤ i → depth (take n s) x ≡ cold
     sink-absent l = let e : i ≡ n = omega (arith, h .within) in depth-absent x (take n s) (rw e at (h .passed))
 
-    pub sink-cold : n ≤ i → n < length s → placeOf s n x ≡ Cold
+    -- it is new
+    pub sink-cold : n ≤ i → n < length s → Cold ≡ placeOf s n x
     unfolding placeOf
     sink-cold l w = simp (le-leb n (length s) (h .fits), sink-absent l, lt-ltb n (length s) w)
 
@@ -138,7 +147,8 @@ module _ (s : List ℕ) (x n : ℕ) where
     unfolding lifted
     sink-last l w = let e : i ≡ n = omega (arith, h .within) in rw e at (sink-set (omega arith))
 
-    pub sink-full : n ≤ i → length s ≤ n → placeOf s n x ≡ Full
+    -- there is no room
+    pub sink-full : n ≤ i → length s ≤ n → Full ≡ placeOf s n x
     unfolding placeOf
     sink-full l w = simp (le-leb n (length s) (h .fits), sink-absent l, le-ltb n (length s) w)
 

@@ -1,6 +1,6 @@
 -- The words of a summary and their fields.
-use mathlib.Core.Path.{_≡_, refl, sym, ap, _∙_}
-use Prim.Native.Nat.{ℕ, zero, suc, _+_, _*_, _≤_}
+use mathlib.Core.Path.{_≡_, refl}
+use Prim.Native.Nat.{ℕ, suc, _+_, _*_}
 use native.Mathlib.Omega.{arith}
 use mathlib.Core.List.{List, [], _∷_, _++_, reverse, append-assoc}
 use lib.ListN.{length, take, drop, length-append, length-reverse, length-map, length-take, length-drop, take-append-drop}

@@ -3,6 +3,7 @@ ghost use mathlib.Core.Path.{_≡_};
 ghost use mathlib.Core.List.{[], _∷_, _++_};
 ghost use lib.ListN.{drop};
 ghost use Rattle.reuse.specs.Limits.{maxReads, maxExtents};
+ghost use Rattle.reuse.specs.Lists.{mem};
 ghost use Rattle.reuse.specs.Engine.{placeOf, leftBy};
 
 // The most reads of a trace.
@@ -76,4 +77,19 @@ fn move_back(stack: &mut [u32], last: u32)
         stack[i] = carry;
         carry = y;
     }
+}
+
+// Whether x stands in the slice. No early exit: the loop is vectorized.
+pub fn contains(s: &[u32], x: u32) -> bool
+    ensures { λ r. ⌜ r ≡ mem x (now (s .entry)) ⌝ }
+{
+    let mut found = false;
+    let mut i: usize = 0;
+    while i < s.len() {
+        if s[i] == x {
+            found = true;
+        }
+        i = i + 1;
+    }
+    found
 }

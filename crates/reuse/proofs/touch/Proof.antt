@@ -2,11 +2,10 @@
 use mathlib.Core.Path.{refl, sym, _∙_}
 use Prim.Native.Nat.{_-_, _≤_, _<_}
 use native.Mathlib.Omega.{arith}
-use native.Mathlib.Numerals.{add-one}
 use lib.ListN.{length, length-set}
 use borrow.Author.Tests.{lt-leb}
-use Rattle.reuse.specs.Engine.{placeOf, lifted}
-use Rattle.reuse.proofs.Passes.{Sunk, sink-start, sink-turn, sink-found, sink-set, sink-last, sink-cold, sink-full, sink-back, sunk-length}
+use Rattle.reuse.specs.Engine.{placeOf}
+use Rattle.reuse.proofs.Passes.{Sunk, sink-start, sink-turn, sink-found, sink-lifted, sink-last, sink-cold, sink-full, sink-back, sunk-length}
 use borrow.Author.Needs.{needs}
 use Rattle.reuse.proofs.touch.Statement.{statement}
 use Rattle.reuse.proofs.touch.Tie as tie
@@ -43,11 +42,9 @@ same-length : tie.Need-same-length Inv-loop μ-loop
 same-length c = let h = c .before .before .before .loop .inv in simp length-set (sunk-length _ _ _ _ _ _ h)
 
 returns-2 : tie.Need-returns-2 Inv-loop μ-loop
-unfolding lifted
 returns-2 c =
     let h = c .before .before .before .loop .inv in
-    let l : c .before .before .before .loop .i < length (c .before .before .before .before .before .before .args .stack .now) = omega (arith, h .fits) in
-    rw (add-one (c .before .before .before .loop .i)) (sym (sink-found _ _ _ _ _ _ h (omega arith) (c .if2 .taken)), sink-set _ _ _ _ _ _ h l)
+    (sink-found _ _ _ _ _ _ h (omega arith) (c .if2 .taken), sink-lifted _ _ _ _ _ _ h (omega arith))
 
 add-i : tie.Need-add-i Inv-loop μ-loop
 add-i c = search needs
@@ -56,7 +53,7 @@ loop-less : tie.Need-loop-less Inv-loop μ-loop
 loop-less c = search needs
 
 loop-again : tie.Need-loop-again Inv-loop μ-loop
-loop-again c = rw (add-one (c .before .before .before .loop .i)) (sink-turn _ _ _ _ _ _ (c .before .before .before .loop .inv) (omega arith) (c .if2 .left))
+loop-again c = sink-turn _ _ _ _ _ _ (c .before .before .before .loop .inv) (omega arith) (c .if2 .left)
 
 mul-stack-2 : tie.Need-mul-stack-2 Inv-loop μ-loop
 mul-stack-2 c = search needs
@@ -72,7 +69,7 @@ returns-3 c =
     let h = c .before .before .loop .inv in
     let a = c .before .before .before .before .before .args in
     let l : a .n < length (a .stack .now) = omega (arith, sunk-length _ _ _ _ _ _ h) in
-    (sym (sink-cold _ _ _ _ _ _ h (omega arith) l), sink-last _ _ _ _ _ _ h (omega arith) l)
+    (sink-cold _ _ _ _ _ _ h (omega arith) l, sink-last _ _ _ _ _ _ h (omega arith) l)
 
 move-back-requires : tie.Need-move-back-requires Inv-loop μ-loop
 move-back-requires c κs = search needs
@@ -85,7 +82,7 @@ returns-4 c =
     let h = c .before .before .before .before .before .before .loop .inv in
     let a = c .before .before .before .before .before .before .before .before .before .args in
     let l : length (a .stack .now) ≤ a .n = omega (arith, sunk-length _ _ _ _ _ _ h) in
-    (sym (sink-full _ _ _ _ _ _ h (omega arith) l), c .before .before .move-back .ensures ∙ sink-back _ _ _ _ _ _ h (omega arith) l)
+    (sink-full _ _ _ _ _ _ h (omega arith) l, c .before .before .move-back .ensures ∙ sink-back _ _ _ _ _ _ h (omega arith) l)
 
 pub touch-spec : {M : Type 1} → statement M
 touch-spec =
