@@ -32,6 +32,12 @@ unfolding count mem
 count-absent d [] h = refl
 count-absent d (x ∷ l) h = by-test (eqb d x) (λ e. clash (simp e) h) (λ e. simp (e, count-absent d l (simp e at h)))
 
+-- no more pass than there are
+pub count-le : {A : Type 0} (p : A → Bool) (l : List A) → count p l ≤ length l
+unfolding count
+count-le p [] = omega arith
+count-le p (x ∷ l) = let i : count p l ≤ length l = count-le p l in by-test (p x) (λ e. simp e (omega arith)) (λ e. simp e (omega arith))
+
 -- the distances among answers, in order
 unfoldable pub finite : List Reuse → List ℕ
 finite [] = []
@@ -57,6 +63,12 @@ pub count-cons : (r : Reuse) (rs : List Reuse) (d : ℕ) → countAt (r ∷ rs) 
 unfolding countAt
 count-cons r rs d = count-append (isAt d) (r ∷ []) rs
 
+-- by the last and those before it
+pub count-snoc : (rs : List Reuse) (r : Reuse) (d : ℕ) → countAt (rs ++ (r ∷ [])) d ≡ cond (isAt d r) (suc (countAt rs d)) (countAt rs d)
+unfolding countAt
+count-snoc rs r d =
+    count-append (isAt d) rs (r ∷ []) ∙ unfold count in by-test (isAt d r) (λ e. simp e (omega arith)) (λ e. simp e (omega arith))
+
 -- a cold answer counts for no distance
 pub count-cold : (rs : List Reuse) (d : ℕ) → countAt (cold ∷ rs) d ≡ countAt rs d
 unfolding countAt count
@@ -73,6 +85,13 @@ pub sum-zero : (l : List ℕ) → sum (map (λ d. 0) l) ≡ 0
 unfolding sum
 sum-zero [] = refl
 sum-zero (x ∷ l) = let i : sum (map (λ d. 0) l) ≡ 0 = sum-zero l in omega arith
+
+-- no word of a list is above its sum
+pub word-sum : (l : List ℕ) (i : ℕ) → getD l i 0 ≤ sum l
+unfolding sum
+word-sum [] i = omega arith
+word-sum (x ∷ l) zero = omega arith
+word-sum (x ∷ l) (suc i) = omega (arith, word-sum l i)
 
 -- the sum of a list, by its first c and the rest
 pub sum-split : (c : ℕ) (l : List ℕ) → sum (take c l) + sum (drop c l) ≡ sum l
@@ -111,13 +130,14 @@ getD-from f k (suc n) zero h = simp add-zero
 getD-from f k (suc n) (suc i) h =
     getD-from f (suc k) n i (λ e l. h e (omega arith)) ∙ simp (suc-add, add-suc)
 
--- a table of f is each list that reads as f
-pub from-getD : (f : ℕ → ℕ) (l : List ℕ) (k : ℕ) → ((i : ℕ) → getD l i 0 ≡ f (k + i)) → map f (from k (length l)) ≡ l
+-- the front of a list that reads as f, from k on
+pub take-from : (f : ℕ → ℕ) (l : List ℕ) (k v : ℕ) → v ≤ length l → ((i : ℕ) → i < v → getD l i 0 ≡ f (k + i)) → take v l ≡ map f (from k v)
 unfolding from
-from-getD f [] k h = refl
-from-getD f (x ∷ l) k h =
-    ap₂ (λ (y : ℕ) (r : List ℕ). y ∷ r) (sym (h 0 ∙ ap f (omega arith)))
-    (from-getD f l (suc k) (λ i. h (suc i) ∙ ap f (omega arith)))
+take-from f l k zero w h = refl
+take-from f [] k (suc v) w h = absurd (omega arith)
+take-from f (x ∷ l) k (suc v) w h =
+    ap₂ (λ (y : ℕ) (r : List ℕ). y ∷ r) (h 0 (omega arith) ∙ ap f (omega arith))
+    (take-from f l (suc k) v (omega arith) (λ i m. h (suc i) (omega arith) ∙ ap f (omega arith)))
 
 -- a table with one mark
 abbrev mark : ℕ → ℕ → ℕ

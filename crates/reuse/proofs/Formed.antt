@@ -99,7 +99,7 @@ joined-parts a b =
     ∙ ap (λ (m : ℕ). sum (map (countFor (countsOf a)) l) + m) (sum-add g k l)
 
 -- v of the join, by the sides
-joined-size : (a b : List ℕ) → length (joinedFirst a b) ≡ length (firstOf a) + length (outside (firstOf a) (firstOf b))
+pub joined-size : (a b : List ℕ) → length (joinedFirst a b) ≡ length (firstOf a) + length (outside (firstOf a) (firstOf b))
 unfolding joinedFirst
 joined-size a b = length-append (firstOf a) (outside (firstOf a) (firstOf b))
 

@@ -4,10 +4,11 @@ use Prim.Native.Nat.{ℕ, suc, _+_, _*_}
 use native.Mathlib.Omega.{arith}
 use mathlib.Core.List.{List, [], _∷_, map, append-nil, append-assoc}
 use lib.ListN.{length, getD}
+use lib.Seq.{take-length}
 use Rattle.reuse.specs.Lists.{mem, firsts, cleanup, inside, outside, from, count}
 use Rattle.reuse.specs.Summary.{words, histogram, summaryOf, readsOf, extentsOf, firstOf, recentOf, countsOf, joinedFirst, joinedRecent, shared, countFor, joinedCount, joinedCounts, joinOf}
 use Rattle.reuse.proofs.Lists.{outside-none}
-use Rattle.reuse.proofs.Counts.{from-getD}
+use Rattle.reuse.proofs.Counts.{take-from}
 use Rattle.reuse.proofs.Words.{first-length, counts-length, words-again}
 use Rattle.reuse.proofs.Join.{join-law}
 
@@ -35,7 +36,7 @@ unfolding joinOf joinedCounts
 same-parts a b w e l f r h =
     let n : length (firstOf w) ≡ length (countsOf w) = first-length w e ∙ sym (counts-length w e) in
     let c : map (joinedCount a b) (from 1 (length (firstOf w))) ≡ countsOf w =
-    rw n (from-getD (joinedCount a b) (countsOf w) 1 (λ i. h i ∙ ap (joinedCount a b) (omega arith))) in
+    rw n (sym (take-from (joinedCount a b) (countsOf w) 1 (length (countsOf w)) (omega arith) (λ i l. h i ∙ ap (joinedCount a b) (omega arith))) ∙ take-length (countsOf w)) in
     rw (l, f, r, c) (words-again w e)
 
 -- 0 0 is the unit, for all words of the right number

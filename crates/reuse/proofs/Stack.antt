@@ -1,6 +1,6 @@
 -- The LRU stack after a trace, and the answers to two traces end to end.
 use mathlib.Core.Path.{_≡_, refl, sym, ap, _∙_}
-use Prim.Native.Nat.{ℕ}
+use Prim.Native.Nat.{ℕ, suc}
 use mathlib.Core.List.{List, [], _∷_, _++_, reverse, foldl, append-nil, append-assoc, reverse-cons, foldl-append}
 use mathlib.Core.Bool.{true}
 use lib.ListN.{length, length-reverse}
@@ -14,6 +14,12 @@ pub reuses-append : (s a b : List ℕ) → reuses s (a ++ b) ≡ reuses s a ++ r
 unfolding reuses
 reuses-append s [] b = refl
 reuses-append s (x ∷ a) b = ap (λ (r : List Reuse). depth s x ∷ r) (reuses-append (touch s x) a b)
+
+-- one answer for each read
+pub length-reuses : (s t : List ℕ) → length (reuses s t) ≡ length t
+unfolding reuses
+length-reuses s [] = refl
+length-reuses s (x ∷ t) = ap suc (length-reuses (touch s x) t)
 
 -- one more answer
 pub reuses-snoc : (t : List ℕ) (x : ℕ) → reuses [] (t ++ (x ∷ [])) ≡ reuses [] t ++ (depth (stack t) x ∷ [])

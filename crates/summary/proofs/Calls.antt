@@ -1,0 +1,68 @@
+-- The calls' definitions, case by case.
+use mathlib.Core.Path.{_≡_, ap, _∙_}
+use Prim.Native.Nat.{ℕ, _+_, _*_, _≤_, _<_}
+use native.Mathlib.Omega.{arith}
+use mathlib.Core.List.{List, _++_}
+use mathlib.Core.Bool.{true, false}
+use lib.ListN.{length, drop, getD, length-map}
+use borrow.Author.Tests.{le-leb, lt-leb}
+use Rattle.reuse.specs.Limits.{maxReads, maxExtents}
+use Rattle.reuse.specs.Summary.{wellFormed, readsOf, joinedFirst, joinedRecent, joinedCounts, joinOf}
+use Rattle.reuse.proofs.Formed.{formed, joined-length}
+use Rattle.reuse.proofs.Words.{length-words}
+use Rattle.reuse.proofs.Counts.{length-from}
+use Rattle.summary.specs.declared.Written.the-variants.{Words}
+use Rattle.summary.specs.Calls.{wrote, joinCall, refused}
+use Rattle.summary.specs.Rows.{put}
+
+-- the words of a join are 2 + 3v
+pub join-length : (a b : List ℕ) → wellFormed a ≡ true → wellFormed b ≡ true → length (joinOf a b) ≡ 2 + 3 * length (joinedFirst a b)
+unfolding joinOf
+join-length a b ha hb =
+    (length-words (readsOf a + readsOf b) (joinedFirst a b) (joinedRecent a b) (joinedCounts a b)
+    (joined-length a b (formed a ha) (formed b hb)) (unfold joinedCounts in simp (length-map, length-from)))
+
+module _ (a b out : List ℕ) where
+  -- A is not well formed
+  pub turned-left : wellFormed a ≡ false → joinCall a b out ≡ refused 5 out
+  unfolding joinCall
+  turned-left e = simp e
+
+  module _ (ha : wellFormed a ≡ true) where
+    -- B is not
+    pub turned-right : wellFormed b ≡ false → joinCall a b out ≡ refused 5 out
+    unfolding joinCall
+    turned-right e = simp (ha, e)
+
+    module _ (hb : wellFormed b ≡ true) where
+      -- too many reads
+      pub turned-reads : maxReads < getD a 0 0 + getD b 0 0 → joinCall a b out ≡ refused 8 out
+      unfolding joinCall readsOf
+      turned-reads l = simp (ha, hb, lt-leb (getD a 0 0 + getD b 0 0) maxReads l)
+
+      module _ (hl : getD a 0 0 + getD b 0 0 ≤ maxReads) where
+        -- too many extents
+        pub turned-extents : maxExtents < length (joinedFirst a b) → joinCall a b out ≡ refused 9 out
+        unfolding joinCall readsOf
+        turned-extents l = simp (ha, hb, le-leb (getD a 0 0 + getD b 0 0) maxReads hl, lt-leb (length (joinedFirst a b)) maxExtents l)
+
+        module _ (hv : length (joinedFirst a b) ≤ maxExtents) where
+          -- past the tests of the two summaries
+          joins : joinCall a b out ≡ wrote (joinOf a b) out
+          unfolding joinCall readsOf
+          joins = simp (ha, hb, le-leb (getD a 0 0 + getD b 0 0) maxReads hl, le-leb (length (joinedFirst a b)) maxExtents hv)
+
+          -- too few words for the answer
+          pub turned-room : length out < 2 + 3 * length (joinedFirst a b) → joinCall a b out ≡ refused 6 out
+          unfolding wrote
+          turned-room l =
+              joins ∙ simp (lt-leb (length (joinOf a b)) (length out) (omega (arith, join-length a b ha hb)))
+
+          -- the join is written
+          pub joined : 2 + 3 * length (joinedFirst a b) ≤ length out
+              → joinCall a b out ≡ record { answer = Words (2 + 3 * length (joinedFirst a b)); buffer = put out 0 (joinOf a b) }
+          unfolding wrote put
+          joined l =
+              let n : 0 + length (joinOf a b) ≡ length (joinOf a b) = omega arith in
+              joins ∙ rw n (simp (le-leb (length (joinOf a b)) (length out) (omega (arith, join-length a b ha hb)))
+              (ap (λ (k : ℕ). record { answer = Words k; buffer = joinOf a b ++ drop (length (joinOf a b)) out }) (join-length a b ha hb)))
