@@ -13,7 +13,7 @@ use Rattle.reuse.proofs.Words.{length-words}
 use Rattle.reuse.proofs.Counts.{length-from}
 use Rattle.summary.specs.declared.Written.the-variants.{Words}
 use Rattle.summary.specs.Calls.{wrote, joinCall, refused}
-use Rattle.summary.specs.Rows.{put}
+use Rattle.summary.specs.Rows.{putAt}
 
 -- the words of a join are 2 + 3v
 pub join-length : (a b : List ℕ) → wellFormed a ≡ true → wellFormed b ≡ true → length (joinOf a b) ≡ 2 + 3 * length (joinedFirst a b)
@@ -60,8 +60,8 @@ module _ (a b out : List ℕ) where
 
           -- the join is written
           pub joined : 2 + 3 * length (joinedFirst a b) ≤ length out
-              → joinCall a b out ≡ record { answer = Words (2 + 3 * length (joinedFirst a b)); buffer = put out 0 (joinOf a b) }
-          unfolding wrote put
+              → joinCall a b out ≡ record { answer = Words (2 + 3 * length (joinedFirst a b)); buffer = putAt out 0 (joinOf a b) }
+          unfolding wrote putAt
           joined l =
               let n : 0 + length (joinOf a b) ≡ length (joinOf a b) = omega arith in
               joins ∙ rw n (simp (le-leb (length (joinOf a b)) (length out) (omega (arith, join-length a b ha hb)))

@@ -19,7 +19,7 @@ use Rattle.reuse.proofs.Stack.{reuses-append, length-reuses, distinct-from}
 use Rattle.reuse.proofs.Depth.{cold-absent}
 use Rattle.reuse.proofs.Counts.{count-le, count-snoc}
 use Rattle.reuse.proofs.Across.{stack-grows}
-use Rattle.reuse.proofs.Engine.{place-depth, place-range, place-cold, place-room, place-full, place-counts, lifted-length, touched-known, touched-new}
+use Rattle.reuse.proofs.Engine.{place-depth, place-range, place-cold, place-full, place-counts, lifted-length, touched-known, touched-new}
 use Rattle.summary.specs.Rows.{Counted, Countable}
 
 -- the first i reads are taken

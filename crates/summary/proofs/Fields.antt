@@ -8,7 +8,6 @@ use lib.Dec.{eqb}
 use lib.ListN.{length, take, drop, getD}
 use lib.Seq.{take-all, take-take}
 use borrow.Author.Tests.{eqb-true}
-use Rattle.reuse.specs.Limits.{maxReads, maxExtents}
 use Rattle.reuse.specs.Lists.{sum, distinct, allIn}
 use Rattle.reuse.specs.Summary.{wellFormed, readsOf, extentsOf, firstOf, recentOf, countsOf, hitsOf, missesOf}
 use Rattle.reuse.proofs.Lists.{by-test}

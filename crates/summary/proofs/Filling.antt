@@ -1,20 +1,23 @@
--- The words of a join, put into the lent buffer part by part.
+-- The words of a join, putAt into the lent buffer part by part.
 use mathlib.Core.Path.{_≡_, refl, sym, ap, _∙_}
 use Prim.Native.Nat.{ℕ, _+_, _≤_}
 use native.Mathlib.Omega.{arith}
 use mathlib.Core.List.{List, [], _∷_, _++_, map, append-assoc}
 use lib.ListN.{length, take, getD, set, length-append, length-map, length-set}
-use Rattle.reuse.specs.Lists.{outside, from}
+use Rattle.reuse.specs.Lists.{from}
 use Rattle.reuse.specs.Summary.{words, readsOf, firstOf, recentOf, joinedFirst, joinedRecent, joinedCount, joinedCounts, joinOf}
-use Rattle.reuse.proofs.Lists.{outside-none}
 use Rattle.reuse.proofs.Counts.{length-from}
 use Rattle.reuse.proofs.Formed.{formed, joined-length}
-use Rattle.summary.specs.Rows.{put, beside, Joinable, JoinedRow}
-use Rattle.summary.proofs.Turns.{put-length, put-append, put-cons, put-none}
+use Rattle.summary.specs.Rows.{putAt, beside, Joinable, JoinedRow}
+use Rattle.summary.proofs.Puts.{put-length, put-append, put-cons, put-none}
+
+-- the first two words of a join
+abbrev pub headOf : List ℕ → List ℕ → ℕ → List ℕ
+headOf a b v = (getD a 0 0 + getD b 0 0) ∷ v ∷ []
 
 -- the words l stand at the front, and n is the place after them
 pub record Filled (out l row : List ℕ) (n : ℕ) : Type 0 where
-  pub same : row ≡ put out 0 l
+  pub same : row ≡ putAt out 0 l
   pub size : n ≡ length l
   pub fits : n ≤ length out
 
@@ -32,7 +35,7 @@ fill-start out x y l = record {
 
 -- more words
 pub fill-step : (out l row : List ℕ) (n : ℕ) → Filled out l row n → (m row' : List ℕ) (n' : ℕ) → n + length m ≤ length out
-    → n' ≡ n + length m → row' ≡ put row n m → Filled out (l ++ m) row' n'
+    → n' ≡ n + length m → row' ≡ putAt row n m → Filled out (l ++ m) row' n'
 fill-step out l row n h m row' n' w e q = record {
   same =
       let z : n ≡ 0 + length l = omega (arith, h .size) in
@@ -53,19 +56,19 @@ module _ (a b out : List ℕ) (v : ℕ) (g : Joinable a b out v) where
   recent-words = joined-length a b (formed a (g .left .formed)) (formed b (g .right .formed)) ∙ sym (g .extents)
 
   -- and H
-  pub count-words : (row : List ℕ) → JoinedRow a b row → length (outside [] (take v row)) ≡ v
-  count-words row j = rw (outside-none (take v row), j .front v (g .few)) (simp (length-map, length-from))
+  pub count-words : (hist : List ℕ) → JoinedRow a b hist → length (take v hist) ≡ v
+  count-words hist j = rw (j .front v (g .few)) (simp (length-map, length-from))
 
   -- all parts together
   pub filled : (row hist : List ℕ) (n : ℕ) → JoinedRow a b hist
-      → Filled out (((((getD a 0 0 + getD b 0 0) ∷ v ∷ []) ++ beside (firstOf a) (firstOf b)) ++ beside (recentOf b) (recentOf a)) ++ outside [] (take v hist)) row n
-      → row ≡ put out 0 (joinOf a b)
+      → Filled out (((headOf a b v ++ beside (firstOf a) (firstOf b)) ++ beside (recentOf b) (recentOf a)) ++ take v hist) row n
+      → row ≡ putAt out 0 (joinOf a b)
   unfolding joinOf words joinedFirst joinedRecent joinedCounts readsOf beside
   filled row hist n j h =
-      let e : outside [] (take v hist) ≡ map (joinedCount a b) (from 1 (length (joinedFirst a b))) =
-      outside-none (take v hist) ∙ j .front v (g .few) ∙ ap (λ (k : ℕ). map (joinedCount a b) (from 1 k)) (g .extents) in
+      let e : take v hist ≡ map (joinedCount a b) (from 1 (length (joinedFirst a b))) =
+      j .front v (g .few) ∙ ap (λ (k : ℕ). map (joinedCount a b) (from 1 k)) (g .extents) in
       h .same
-      ∙ ap (put out 0)
+      ∙ ap (putAt out 0)
       (ap {B = List ℕ} (λ l. (getD a 0 0 + getD b 0 0) ∷ v ∷ l)
-      (append-assoc (beside (firstOf a) (firstOf b)) (beside (recentOf b) (recentOf a)) (outside [] (take v hist)))
+      (append-assoc (beside (firstOf a) (firstOf b)) (beside (recentOf b) (recentOf a)) (take v hist))
       ∙ rw (e, g .extents) (simp append-assoc))

@@ -1,20 +1,20 @@
 -- H of a join, counted on the stack of A.
 use mathlib.Core.Path.{_≡_, refl, sym, _∙_}
-use Prim.Native.Nat.{ℕ, zero, suc, _+_, _≤_, _<_}
+use Prim.Native.Nat.{ℕ, zero, suc, _+_, _≤_}
 use native.Mathlib.Omega.{arith}
-use mathlib.Core.List.{List, [], _∷_, foldl}
+use mathlib.Core.List.{List, foldl}
 use lib.Dec.{eqb}
 use lib.ListN.{length, take, drop, getD, replicate, length-replicate}
 use lib.Seq.{take-at}
-use Rattle.reuse.specs.Lists.{sum, outside, count}
+use Rattle.reuse.specs.Limits.{maxReads, maxExtents}
+use Rattle.reuse.specs.Lists.{count}
 use Rattle.reuse.specs.Lru.{touch, reuses, countAt}
-use Rattle.reuse.specs.Summary.{readsOf, extentsOf, firstOf, recentOf, countsOf, joinedFirst, countFor, joinedCount}
-use Rattle.reuse.proofs.Lists.{outside-none}
+use Rattle.reuse.specs.Summary.{readsOf, extentsOf, firstOf, recentOf, countsOf, countFor, joinedCount}
 use Rattle.reuse.proofs.Counts.{finite, count-finite, word-sum, take-from}
 use Rattle.reuse.proofs.Words.{recent-length, first-length}
 use Rattle.reuse.proofs.Formed.{formed, recent-distinct, join-distances, joined-stack}
-use Rattle.summary.specs.Rows.{put, Added, Counted, Countable, Given, Near, JoinedRow}
-use Rattle.summary.proofs.Turns.{put-length}
+use Rattle.summary.specs.Rows.{putAt, Added, Counted, Countable, Given, Near, JoinedRow}
+use Rattle.summary.proofs.Puts.{put-length}
 
 -- a row of zeros has no other word
 pub zero-word : (n i : ℕ) → getD {A = ℕ} (replicate n 0) i 0 ≡ 0
@@ -30,36 +30,35 @@ module _ (w : List ℕ) (g : Given w) where
   recent-size = recent-length w (formed w (g .formed) .long)
 
   -- a word of H is at most the reads
-  pub count-small : (i : ℕ) → getD (countsOf w) i 0 ≤ 1_048_576
+  pub count-small : (i : ℕ) → getD (countsOf w) i 0 ≤ maxReads
   unfolding readsOf
   count-small i = omega (arith, word-sum (countsOf w) i, formed w (g .formed) .total, g .shape .short)
 
-  -- R at the front of 256 words
-  module _ (stack : List ℕ) (e : stack ≡ put (replicate 256 0) 0 (outside [] (recentOf w))) where
+  -- R at the front of the stack's words
+  module _ (stack : List ℕ) (e : stack ≡ putAt (replicate maxExtents 0) 0 (recentOf w)) where
     pub stack-front : take (getD w 1 0) stack ≡ recentOf w
-    unfolding put
-    stack-front = rw (e, outside-none (recentOf w)) (take-at (recentOf w) (drop (0 + length (recentOf w)) (replicate 256 0)) (getD w 1 0) recent-size)
+    unfolding putAt
+    stack-front = rw e (take-at (recentOf w) (drop (0 + length (recentOf w)) (replicate maxExtents 0)) (getD w 1 0) recent-size)
 
-    pub stack-size : length stack ≡ 256
-    stack-size =
-        rw e (put-length (replicate 256 0) 0 (outside [] (recentOf w)) (rw (outside-none (recentOf w)) (omega (arith, recent-size, g .shape .few))))
+    pub stack-size : length stack ≡ maxExtents
+    stack-size = rw e (put-length (replicate maxExtents 0) 0 (recentOf w) (omega (arith, recent-size, g .shape .few)))
 
 module _ (a b : List ℕ) (g : Near a b) where
   -- the stack after F of B holds no more than the extents of the join
-  room : length (foldl touch (recentOf a) (firstOf b)) ≤ 256
+  room : length (foldl touch (recentOf a) (firstOf b)) ≤ maxExtents
   room = omega (arith, joined-stack a b (formed a (g .left .formed)) (formed b (g .right .formed)), g .few)
 
   module _ (stack one two : List ℕ)
-      (es : stack ≡ put (replicate 256 0) 0 (outside [] (recentOf a)))
-      (e1 : Added (replicate 256 0) (countsOf a) one)
+      (es : stack ≡ putAt (replicate maxExtents 0) 0 (recentOf a))
+      (e1 : Added (replicate maxExtents 0) (countsOf a) one)
       (e2 : Added one (countsOf b) two) where
-    -- 256 counts
-    pub two-size : length two ≡ 256
-    two-size = e2 .size ∙ e1 .size ∙ length-replicate {A = ℕ} 256 0
+    -- as many counts as extents
+    pub two-size : length two ≡ maxExtents
+    two-size = e2 .size ∙ e1 .size ∙ length-replicate {A = ℕ} maxExtents 0
 
     -- the counts of both sides
     pub two-word : (i : ℕ) → getD two i 0 ≡ getD (countsOf a) i 0 + getD (countsOf b) i 0
-    two-word i = omega (arith, e2 .each i, e1 .each i, zero-word 256 i)
+    two-word i = omega (arith, e2 .each i, e1 .each i, zero-word maxExtents i)
 
     -- F of B can be taken after the stack
     pub countable : Countable stack (getD a 1 0) (firstOf b) two
@@ -79,7 +78,7 @@ module _ (a b : List ℕ) (g : Near a b) where
     pub counted : (row : List ℕ) → Counted two (reuses (take (getD a 1 0) stack) (firstOf b)) row → JoinedRow a b row
     unfolding joinedCount countFor
     counted row c =
-        let n : length row ≡ 256 = c .size ∙ two-size in
+        let n : length row ≡ maxExtents = c .size ∙ two-size in
         record {
           size = n;
           front = λ v l. take-from (joinedCount a b) row 1 v (omega arith) (λ i k.

@@ -10,8 +10,8 @@ use Rattle.reuse.specs.Lru.{Reuse, touch, countAt}
 use Rattle.reuse.specs.Summary.{wellFormed, readsOf, joinedFirst, joinedCount}
 
 -- the words l from place `at` on, the others as they were
-unfoldable pub put : List ℕ → ℕ → List ℕ → List ℕ
-put o at l = take at o ++ (l ++ drop (at + length l) o)
+unfoldable pub putAt : List ℕ → ℕ → List ℕ → List ℕ
+putAt o at l = take at o ++ (l ++ drop (at + length l) o)
 
 -- s, then those of t that are not in it: F and R of a join are such rows
 unfoldable pub beside : List ℕ → List ℕ → List ℕ
@@ -38,18 +38,18 @@ pub record Countable (stack : List ℕ) (n : ℕ) (reads hist : List ℕ) : Type
 -- the sizes of well-formed words, by the words themselves
 pub record Shaped (w : List ℕ) : Type 0 where
   pub long : length w ≡ 2 + 3 * getD w 1 0
-  pub few : getD w 1 0 ≤ 256
-  pub short : getD w 0 0 ≤ 1_048_576
+  pub few : getD w 1 0 ≤ maxExtents
+  pub short : getD w 0 0 ≤ maxReads
 
 pub record Given (w : List ℕ) : Type 0 where
   pub formed : wellFormed w ≡ true
   pub shape : Shaped w
 
--- words whose join has at most 256 extents
+-- words whose join has no more extents than the limit
 pub record Near (a b : List ℕ) : Type 0 where
   pub left : Given a
   pub right : Given b
-  pub few : length (joinedFirst a b) ≤ 256
+  pub few : length (joinedFirst a b) ≤ maxExtents
 
 -- words that pass all tests of a join
 pub record Joinable (a b out : List ℕ) (v : ℕ) : Type 0 where
@@ -60,7 +60,7 @@ pub record Joinable (a b out : List ℕ) (v : ℕ) : Type 0 where
   pub few : v ≤ maxExtents
   pub room : 2 + 3 * v ≤ length out
 
--- H of the join at the front of 256 words
+-- H of the join at the front of as many words as the limit of extents
 pub record JoinedRow (a b row : List ℕ) : Type 0 where
-  pub size : length row ≡ 256
-  pub front : (v : ℕ) → v ≤ 256 → take v row ≡ mathlib.Core.List.map (joinedCount a b) (from 1 v)
+  pub size : length row ≡ maxExtents
+  pub front : (v : ℕ) → v ≤ maxExtents → take v row ≡ mathlib.Core.List.map (joinedCount a b) (from 1 v)

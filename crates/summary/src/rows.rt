@@ -4,7 +4,7 @@ ghost use Prim.Native.Nat.{ℕ, _+_, _≤_, _<_, _^_};
 ghost use lib.ListN.{length, getD};
 ghost use Rattle.reuse.specs.Lists.{distinct, allIn, sum, outside};
 ghost use Rattle.reuse.specs.Summary.{hitsOf};
-ghost use Rattle.summary.specs.Rows.{put, beside, Added, Given};
+ghost use Rattle.summary.specs.Rows.{putAt, beside, Added, Given};
 
 // No word stands twice.
 pub fn all_distinct(s: &[u32]) -> bool
@@ -80,10 +80,24 @@ pub fn count_outside(known: &[u32], s: &[u32]) -> usize
     n
 }
 
+// The words of the row are written from place `at` on; the answer is the place after them.
+pub fn put(out: &mut [u32], at: usize, s: &[u32]) -> usize
+    requires { ⌜ at + length (now s) ≤ length (now out) ⌝ }
+    ensures { λ r. ⌜ (r ≡ at + length (now (s .entry))) × (now (out .exit) ≡ putAt (now (out .entry)) at (now (s .entry))) ⌝ }
+{
+    let mut i: usize = 0;
+    while i < s.len() {
+        let to = at + i;
+        out[to] = s[i];
+        i = i + 1;
+    }
+    at + i
+}
+
 // The words of the row that do not stand in `known` are written from place `at` on; the answer is the place after them.
 pub fn put_outside(out: &mut [u32], at: usize, known: &[u32], s: &[u32]) -> usize
     requires { ⌜ at + length (outside (now known) (now s)) ≤ length (now out) ⌝ }
-    ensures { λ r. ⌜ (r ≡ at + length (outside (now (known .entry)) (now (s .entry)))) × (now (out .exit) ≡ put (now (out .entry)) at (outside (now (known .entry)) (now (s .entry)))) ⌝ }
+    ensures { λ r. ⌜ (r ≡ at + length (outside (now (known .entry)) (now (s .entry)))) × (now (out .exit) ≡ putAt (now (out .entry)) at (outside (now (known .entry)) (now (s .entry)))) ⌝ }
 {
     let mut n = at;
     let mut i: usize = 0;
@@ -101,9 +115,9 @@ pub fn put_outside(out: &mut [u32], at: usize, known: &[u32], s: &[u32]) -> usiz
 // The first row and then the words of the second that do not stand in it are written from place `at` on; the answer is the place after them.
 pub fn put_beside(out: &mut [u32], at: usize, s: &[u32], t: &[u32]) -> usize
     requires { ⌜ at + length (beside (now s) (now t)) ≤ length (now out) ⌝ }
-    ensures { λ r. ⌜ (r ≡ at + length (beside (now (s .entry)) (now (t .entry)))) × (now (out .exit) ≡ put (now (out .entry)) at (beside (now (s .entry)) (now (t .entry)))) ⌝ }
+    ensures { λ r. ⌜ (r ≡ at + length (beside (now (s .entry)) (now (t .entry)))) × (now (out .exit) ≡ putAt (now (out .entry)) at (beside (now (s .entry)) (now (t .entry)))) ⌝ }
 {
-    let next = put_outside(out, at, &s[0..0], s);
+    let next = put(out, at, s);
     put_outside(out, next, s, t)
 }
 

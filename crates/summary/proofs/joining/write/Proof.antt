@@ -1,58 +1,63 @@
 -- `summary::joining::write` meets its contract.
 use Prim.Native.Nat.{_+_}
 use native.Mathlib.Omega.{arith}
-use mathlib.Core.List.{[], _∷_, _++_}
+use mathlib.Core.List.{_++_}
 use lib.ListN.{take, getD, set, length-append, length-set}
-use Rattle.reuse.specs.Lists.{outside}
 use Rattle.reuse.specs.Summary.{firstOf, recentOf}
 use Rattle.summary.specs.Rows.{beside}
 use Rattle.summary.proofs.Fields.{first-part, recent-part, front-part}
-use Rattle.summary.proofs.Filling.{Filled, fill-start, fill-step, filled-length, first-words, recent-words, count-words, filled}
+use Rattle.summary.proofs.Filling.{Filled, headOf, fill-start, fill-step, filled-length, first-words, recent-words, count-words, filled}
 use borrow.Author.Needs.{needs}
 use Rattle.summary.proofs.joining.write.Statement.{statement}
 use Rattle.summary.proofs.joining.write.Tie as tie
 
 -- L and v stand at the front
-begun : (c : tie.After-shared-slice-known6) → Filled (c .before .before .before .before .before .before .before .before .args .out .now) ((getD (c .before .before .before .before .before .before .before .before .args .a .now) 0 0 + getD (c .before .before .before .before .before .before .before .before .args .b .now) 0 0) ∷ c .before .before .before .before .before .before .before .before .args .v ∷ []) (set (set (c .before .before .before .before .before .before .before .before .args .out .now) 0 (getD (c .before .before .before .before .before .before .before .before .args .a .now) 0 0 + getD (c .before .before .before .before .before .before .before .before .args .b .now) 0 0)) 1 (c .before .before .before .before .before .before .before .before .args .v)) 2
+begun : (c : tie.After-shared-slice-known6) →
+    let g = c .before .before .before .before .before .before .before .before .args in
+    Filled (g .out .now) (headOf (g .a .now) (g .b .now) (g .v)) (set (set (g .out .now) 0 (getD (g .a .now) 0 0 + getD (g .b .now) 0 0)) 1 (g .v)) 2
 begun c = fill-start _ _ _ (omega (arith, c .before .before .before .before .before .before .before .before .pre .room))
 
 -- and F
-first-filled : (c : tie.After-put-beside) → Filled (c .before .before .before .before .before .before .before .before .before .before .before .before .args .out .now) (((getD (c .before .before .before .before .before .before .before .before .before .before .before .before .args .a .now) 0 0 + getD (c .before .before .before .before .before .before .before .before .before .before .before .before .args .b .now) 0 0) ∷ c .before .before .before .before .before .before .before .before .before .before .before .before .args .v ∷ []) ++ beside (firstOf (c .before .before .before .before .before .before .before .before .before .before .before .before .args .a .now)) (firstOf (c .before .before .before .before .before .before .before .before .before .before .before .before .args .b .now))) (c .put-beside .last .0) (c .put-beside .result)
+first-filled : (c : tie.After-put-beside) →
+    let g = c .before .before .before .before .before .before .before .before .before .before .before .before .args in
+    Filled (g .out .now) (headOf (g .a .now) (g .b .now) (g .v) ++ beside (firstOf (g .a .now)) (firstOf (g .b .now))) (c .put-beside .last .0) (c .put-beside .result)
 first-filled c =
-    let a = c .before .before .before .before .before .before .before .before .before .before .before .before .args .a .now in
-    let b = c .before .before .before .before .before .before .before .before .before .before .before .before .args .b .now in
-    let out = c .before .before .before .before .before .before .before .before .before .before .before .before .args .out .now in
-    let v = c .before .before .before .before .before .before .before .before .before .before .before .before .args .v in
-    let g = c .before .before .before .before .before .before .before .before .before .before .before .before .pre in
-    fill-step out _ _ _ (begun (c .before .before .before .before)) (beside (firstOf a) (firstOf b)) _ _ (omega (arith, first-words a b out v g, g .room))
-    (rw (first-part a, first-part b) at (c .put-beside .ensures .0)) (rw (first-part a, first-part b) at (c .put-beside .ensures .1))
+    let g = c .before .before .before .before .before .before .before .before .before .before .before .before in
+    let a = g .args .a .now in
+    let b = g .args .b .now in
+    let e = rw (first-part a, first-part b) at (c .put-beside .ensures) in
+    fill-step _ _ _ _ (begun (c .before .before .before .before)) (beside (firstOf a) (firstOf b)) _ _ (omega (arith, first-words a b (g .args .out .now) (g .args .v) (g .pre), g .pre .room)) (e .0) (e .1)
 
 -- and R
-recent-filled : (c : tie.After-put-beside2) → Filled (c .before .before .before .before .before .before .before .before .before .before .before .before .before .before .before .before .before .before .args .out .now) ((((getD (c .before .before .before .before .before .before .before .before .before .before .before .before .before .before .before .before .before .before .args .a .now) 0 0 + getD (c .before .before .before .before .before .before .before .before .before .before .before .before .before .before .before .before .before .before .args .b .now) 0 0) ∷ c .before .before .before .before .before .before .before .before .before .before .before .before .before .before .before .before .before .before .args .v ∷ []) ++ beside (firstOf (c .before .before .before .before .before .before .before .before .before .before .before .before .before .before .before .before .before .before .args .a .now)) (firstOf (c .before .before .before .before .before .before .before .before .before .before .before .before .before .before .before .before .before .before .args .b .now))) ++ beside (recentOf (c .before .before .before .before .before .before .before .before .before .before .before .before .before .before .before .before .before .before .args .b .now)) (recentOf (c .before .before .before .before .before .before .before .before .before .before .before .before .before .before .before .before .before .before .args .a .now))) (c .put-beside2 .last .0) (c .put-beside2 .result)
+recent-filled : (c : tie.After-put-beside2) →
+    let g = c .before .before .before .before .before .before .before .before .before .before .before .before .before .before .before .before .before .before .args in
+    Filled (g .out .now) ((headOf (g .a .now) (g .b .now) (g .v) ++ beside (firstOf (g .a .now)) (firstOf (g .b .now))) ++ beside (recentOf (g .b .now)) (recentOf (g .a .now))) (c .put-beside2 .last .0) (c .put-beside2 .result)
 recent-filled c =
-    let a = c .before .before .before .before .before .before .before .before .before .before .before .before .before .before .before .before .before .before .args .a .now in
-    let b = c .before .before .before .before .before .before .before .before .before .before .before .before .before .before .before .before .before .before .args .b .now in
-    let out = c .before .before .before .before .before .before .before .before .before .before .before .before .before .before .before .before .before .before .args .out .now in
-    let v = c .before .before .before .before .before .before .before .before .before .before .before .before .before .before .before .before .before .before .args .v in
-    let g = c .before .before .before .before .before .before .before .before .before .before .before .before .before .before .before .before .before .before .pre in
+    let g = c .before .before .before .before .before .before .before .before .before .before .before .before .before .before .before .before .before .before in
+    let a = g .args .a .now in
+    let b = g .args .b .now in
     let s = first-filled (c .before .before .before .before .before .before) in
-    fill-step out _ _ _ s (beside (recentOf b) (recentOf a)) _ _
-    (omega (arith, simp length-append at (s .size), first-words a b out v g, recent-words a b out v g, g .room))
-    (rw (recent-part b, recent-part a) at (c .put-beside2 .ensures .0)) (rw (recent-part b, recent-part a) at (c .put-beside2 .ensures .1))
+    let e = rw (recent-part b, recent-part a) at (c .put-beside2 .ensures) in
+    fill-step _ _ _ _ s (beside (recentOf b) (recentOf a)) _ _
+    (omega (arith, simp length-append at (s .size), first-words a b (g .args .out .now) (g .args .v) (g .pre), recent-words a b (g .args .out .now) (g .args .v) (g .pre), g .pre .room))
+    (e .0) (e .1)
 
 -- and H
-counts-filled : (c : tie.After-put-outside) → Filled (c .before .before .before .before .before .before .before .before .before .before .before .before .before .before .before .before .before .before .before .before .before .before .before .before .before .args .out .now) (((((getD (c .before .before .before .before .before .before .before .before .before .before .before .before .before .before .before .before .before .before .before .before .before .before .before .before .before .args .a .now) 0 0 + getD (c .before .before .before .before .before .before .before .before .before .before .before .before .before .before .before .before .before .before .before .before .before .before .before .before .before .args .b .now) 0 0) ∷ c .before .before .before .before .before .before .before .before .before .before .before .before .before .before .before .before .before .before .before .before .before .before .before .before .before .args .v ∷ []) ++ beside (firstOf (c .before .before .before .before .before .before .before .before .before .before .before .before .before .before .before .before .before .before .before .before .before .before .before .before .before .args .a .now)) (firstOf (c .before .before .before .before .before .before .before .before .before .before .before .before .before .before .before .before .before .before .before .before .before .before .before .before .before .args .b .now))) ++ beside (recentOf (c .before .before .before .before .before .before .before .before .before .before .before .before .before .before .before .before .before .before .before .before .before .before .before .before .before .args .b .now)) (recentOf (c .before .before .before .before .before .before .before .before .before .before .before .before .before .before .before .before .before .before .before .before .before .before .before .before .before .args .a .now))) ++ outside [] (take (c .before .before .before .before .before .before .before .before .before .before .before .before .before .before .before .before .before .before .before .before .before .before .before .before .before .args .v) (c .before .before .before .before .before .before .before .before .before .before .before .before .before .before .before .before .before .before .before .counts .result))) (c .put-outside .last .0) (c .put-outside .result)
+counts-filled : (c : tie.After-put) →
+    let g = c .before .before .before .before .before .before .before .before .before .before .before .before .before .before .before .before .before .before .before .before .before .before .before .before .args in
+    Filled (g .out .now) (((headOf (g .a .now) (g .b .now) (g .v) ++ beside (firstOf (g .a .now)) (firstOf (g .b .now))) ++ beside (recentOf (g .b .now)) (recentOf (g .a .now))) ++ take (g .v) (c .before .before .before .before .before .before .before .before .before .before .before .before .before .before .before .before .before .before .counts .result)) (c .put .last .0) (c .put .result)
 counts-filled c =
-    let a = c .before .before .before .before .before .before .before .before .before .before .before .before .before .before .before .before .before .before .before .before .before .before .before .before .before .args .a .now in
-    let b = c .before .before .before .before .before .before .before .before .before .before .before .before .before .before .before .before .before .before .before .before .before .before .before .before .before .args .b .now in
-    let out = c .before .before .before .before .before .before .before .before .before .before .before .before .before .before .before .before .before .before .before .before .before .before .before .before .before .args .out .now in
-    let v = c .before .before .before .before .before .before .before .before .before .before .before .before .before .before .before .before .before .before .before .before .before .before .before .before .before .args .v in
-    let g = c .before .before .before .before .before .before .before .before .before .before .before .before .before .before .before .before .before .before .before .before .before .before .before .before .before .pre in
-    let s = recent-filled (c .before .before .before .before .before .before .before) in
-    let hist = c .before .before .before .before .before .before .before .before .before .before .before .before .before .before .before .before .before .before .before .counts .result in
-    fill-step out _ _ _ s (outside [] (take v hist)) _ _
-    (omega (arith, simp length-append at (s .size), first-words a b out v g, recent-words a b out v g, count-words a b out v g hist (c .before .before .before .before .before .before .before .before .before .before .before .before .before .before .before .before .before .before .before .counts .ensures), g .room))
-    (rw (front-part v hist) at (c .put-outside .ensures .0)) (rw (front-part v hist) at (c .put-outside .ensures .1))
+    let g = c .before .before .before .before .before .before .before .before .before .before .before .before .before .before .before .before .before .before .before .before .before .before .before .before in
+    let a = g .args .a .now in
+    let b = g .args .b .now in
+    let out = g .args .out .now in
+    let v = g .args .v in
+    let s = recent-filled (c .before .before .before .before .before .before) in
+    let hist = c .before .before .before .before .before .before .before .before .before .before .before .before .before .before .before .before .before .before .counts .result in
+    let e = rw (front-part v hist) at (c .put .ensures) in
+    fill-step _ _ _ _ s (take v hist) _ _
+    (omega (arith, simp length-append at (s .size), first-words a b out v (g .pre), recent-words a b out v (g .pre), count-words a b out v (g .pre) hist (c .before .before .before .before .before .before .before .before .before .before .before .before .before .before .before .before .before .before .counts .ensures), g .pre .room))
+    (e .0) (e .1)
 
 shared-slice-read-va : tie.Need-shared-slice-read-va
 shared-slice-read-va c = search needs
@@ -97,7 +102,7 @@ cast-out : tie.Need-cast-out
 cast-out c = search needs
 
 slice-write-out-2 : tie.Need-slice-write-out-2
-slice-write-out-2 c = let g = c .before .before .before .before .before .before .before .before .pre in simp length-set (omega (arith, g .room))
+slice-write-out-2 c = simp length-set (omega (arith, c .before .before .before .before .before .before .before .before .pre .room))
 
 sub-put-beside : tie.Need-sub-put-beside
 sub-put-beside c = search needs
@@ -119,12 +124,11 @@ part-put-beside-end-2 c = search needs
 
 put-beside-requires : tie.Need-put-beside-requires
 put-beside-requires c κs =
-    let a = c .before .before .before .before .before .before .before .before .before .before .before .args .a .now in
-    let b = c .before .before .before .before .before .before .before .before .before .before .before .args .b .now in
-    let out = c .before .before .before .before .before .before .before .before .before .before .before .args .out .now in
-    let v = c .before .before .before .before .before .before .before .before .before .before .before .args .v in
-    let g = c .before .before .before .before .before .before .before .before .before .before .before .pre in
-    rw (first-part a, first-part b) (omega (arith, first-words a b out v g, g .room, filled-length _ _ _ _ (begun (c .before .before .before))))
+    let g = c .before .before .before .before .before .before .before .before .before .before .before in
+    let a = g .args .a .now in
+    let b = g .args .b .now in
+    rw (first-part a, first-part b)
+    (omega (arith, first-words a b (g .args .out .now) (g .args .v) (g .pre), g .pre .room, filled-length _ _ _ _ (begun (c .before .before .before))))
 
 mul-put-beside : tie.Need-mul-put-beside
 mul-put-beside c = search needs
@@ -152,56 +156,39 @@ part-put-beside-end-4 c = search needs
 
 put-beside-requires-2 : tie.Need-put-beside-requires-2
 put-beside-requires-2 c κs =
-    let a = c .before .before .before .before .before .before .before .before .before .before .before .before .before .before .before .before .before .args .a .now in
-    let b = c .before .before .before .before .before .before .before .before .before .before .before .before .before .before .before .before .before .args .b .now in
-    let out = c .before .before .before .before .before .before .before .before .before .before .before .before .before .before .before .before .before .args .out .now in
-    let v = c .before .before .before .before .before .before .before .before .before .before .before .before .before .before .before .before .before .args .v in
-    let g = c .before .before .before .before .before .before .before .before .before .before .before .before .before .before .before .before .before .pre in
+    let g = c .before .before .before .before .before .before .before .before .before .before .before .before .before .before .before .before .before in
+    let a = g .args .a .now in
+    let b = g .args .b .now in
     let s = first-filled (c .before .before .before .before .before) in
     rw (recent-part b, recent-part a)
-    (omega (arith, simp length-append at (s .size), first-words a b out v g, recent-words a b out v g, g .room, filled-length _ _ _ _ s))
+    (omega (arith, simp length-append at (s .size), first-words a b (g .args .out .now) (g .args .v) (g .pre), recent-words a b (g .args .out .now) (g .args .v) (g .pre), g .pre .room, filled-length _ _ _ _ s))
 
-sub-put-outside : tie.Need-sub-put-outside
-sub-put-outside c = search needs
+sub-put : tie.Need-sub-put
+sub-put c = search needs
 
-part-put-outside-start : tie.Need-part-put-outside-start
-part-put-outside-start c = search needs
+part-put-start : tie.Need-part-put-start
+part-put-start c = search needs
 
-part-put-outside-end : tie.Need-part-put-outside-end
-part-put-outside-end c = search needs
+part-put-end : tie.Need-part-put-end
+part-put-end c = search needs
 
-sub-put-outside-2 : tie.Need-sub-put-outside-2
-sub-put-outside-2 c = search needs
-
-part-put-outside-start-2 : tie.Need-part-put-outside-start-2
-part-put-outside-start-2 c = search needs
-
-part-put-outside-end-2 : tie.Need-part-put-outside-end-2
-part-put-outside-end-2 c = search needs
-
-put-outside-requires : tie.Need-put-outside-requires
-put-outside-requires c κs =
-    let a = c .before .before .before .before .before .before .before .before .before .before .before .before .before .before .before .before .before .before .before .before .before .before .before .before .args .a .now in
-    let b = c .before .before .before .before .before .before .before .before .before .before .before .before .before .before .before .before .before .before .before .before .before .before .before .before .args .b .now in
-    let out = c .before .before .before .before .before .before .before .before .before .before .before .before .before .before .before .before .before .before .before .before .before .before .before .before .args .out .now in
-    let v = c .before .before .before .before .before .before .before .before .before .before .before .before .before .before .before .before .before .before .before .before .before .before .before .before .args .v in
-    let g = c .before .before .before .before .before .before .before .before .before .before .before .before .before .before .before .before .before .before .before .before .before .before .before .before .pre in
-    let s = recent-filled (c .before .before .before .before .before .before) in
-    let hist = c .before .before .before .before .before .before .before .before .before .before .before .before .before .before .before .before .before .before .counts .result in
+put-requires : tie.Need-put-requires
+put-requires c κs =
+    let g = c .before .before .before .before .before .before .before .before .before .before .before .before .before .before .before .before .before .before .before .before .before .before .before in
+    let a = g .args .a .now in
+    let b = g .args .b .now in
+    let out = g .args .out .now in
+    let v = g .args .v in
+    let s = recent-filled (c .before .before .before .before .before) in
+    let hist = c .before .before .before .before .before .before .before .before .before .before .before .before .before .before .before .before .before .counts .result in
     rw (front-part v hist)
-    (omega (arith, simp length-append at (s .size), first-words a b out v g, recent-words a b out v g, count-words a b out v g hist (c .before .before .before .before .before .before .before .before .before .before .before .before .before .before .before .before .before .before .counts .ensures), g .room, filled-length _ _ _ _ s))
+    (omega (arith, simp length-append at (s .size), first-words a b out v (g .pre), recent-words a b out v (g .pre), count-words a b out v (g .pre) hist (c .before .before .before .before .before .before .before .before .before .before .before .before .before .before .before .before .before .counts .ensures), g .pre .room, filled-length _ _ _ _ s))
 
 same-length : tie.Need-same-length
 same-length c = filled-length _ _ _ _ (counts-filled (c .before .before))
 
 returns : tie.Need-returns
-returns c =
-    let a = c .before .before .before .before .before .before .before .before .before .before .before .before .before .before .before .before .before .before .before .before .before .before .before .before .before .before .before .args .a .now in
-    let b = c .before .before .before .before .before .before .before .before .before .before .before .before .before .before .before .before .before .before .before .before .before .before .before .before .before .before .before .args .b .now in
-    let out = c .before .before .before .before .before .before .before .before .before .before .before .before .before .before .before .before .before .before .before .before .before .before .before .before .before .before .before .args .out .now in
-    let v = c .before .before .before .before .before .before .before .before .before .before .before .before .before .before .before .before .before .before .before .before .before .before .before .before .before .before .before .args .v in
-    let g = c .before .before .before .before .before .before .before .before .before .before .before .before .before .before .before .before .before .before .before .before .before .before .before .before .before .before .before .pre in
-    filled a b out v g _ _ _ (c .before .before .before .before .before .before .before .before .before .before .before .before .before .before .before .before .before .before .before .before .before .counts .ensures) (counts-filled (c .before .before))
+returns c = let g = c .before .before .before .before .before .before .before .before .before .before .before .before .before .before .before .before .before .before .before .before .before .before .before .before .before .before in filled (g .args .a .now) (g .args .b .now) (g .args .out .now) (g .args .v) (g .pre) _ _ _ (c .before .before .before .before .before .before .before .before .before .before .before .before .before .before .before .before .before .before .before .before .counts .ensures) (counts-filled (c .before .before))
 
 pub write-spec : {M : Type 1} → statement M
 write-spec =
@@ -238,12 +225,9 @@ write-spec =
     part-put-beside-start-4
     part-put-beside-end-4
     put-beside-requires-2
-    sub-put-outside
-    part-put-outside-start
-    part-put-outside-end
-    sub-put-outside-2
-    part-put-outside-start-2
-    part-put-outside-end-2
-    put-outside-requires
+    sub-put
+    part-put-start
+    part-put-end
+    put-requires
     same-length
     returns)
