@@ -166,6 +166,7 @@ module _ (a : List ℕ) (n x : ℕ) (fits : n ≤ length a) where
   pub touch-law : distinct (take n a) ≡ true → (placeOf a n x ≡ Full → ⊥) → Touched a n x (placeOf a n x)
   touch-law u room = by-answer (placeOf a n x) refl
     where
+      -- by each of its cases
       by-answer : (r : Place) → placeOf a n x ≡ r → Touched a n x r
       by-answer Cold e = touched-new e
       by-answer (Depth d) e = touched-known d e u

@@ -56,9 +56,11 @@ cleanup-example = refl
 abbrev front : List ℕ
 front = 7 ∷ 3 ∷ 7 ∷ 9 ∷ []
 
+-- the last three
 abbrev back : List ℕ
 back = 3 ∷ 3 ∷ 9 ∷ []
 
+-- the whole
 abbrev seven : List ℕ
 seven = 7 ∷ 3 ∷ 7 ∷ 9 ∷ 3 ∷ 3 ∷ 9 ∷ []
 

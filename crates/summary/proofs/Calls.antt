@@ -24,27 +24,27 @@ join-length a b ha hb =
 
 module _ (a b out : List ℕ) where
   -- A is not well formed
-  pub turned-left : wellFormed a ≡ false → joinCall a b out ≡ refused 5 out
+  pub refused-left : wellFormed a ≡ false → joinCall a b out ≡ refused 5 out
   unfolding joinCall
-  turned-left e = simp e
+  refused-left e = simp e
 
   module _ (ha : wellFormed a ≡ true) where
     -- B is not
-    pub turned-right : wellFormed b ≡ false → joinCall a b out ≡ refused 5 out
+    pub refused-right : wellFormed b ≡ false → joinCall a b out ≡ refused 5 out
     unfolding joinCall
-    turned-right e = simp (ha, e)
+    refused-right e = simp (ha, e)
 
     module _ (hb : wellFormed b ≡ true) where
       -- too many reads
-      pub turned-reads : maxReads < getD a 0 0 + getD b 0 0 → joinCall a b out ≡ refused 8 out
+      pub refused-reads : maxReads < getD a 0 0 + getD b 0 0 → joinCall a b out ≡ refused 8 out
       unfolding joinCall readsOf
-      turned-reads l = simp (ha, hb, lt-leb (getD a 0 0 + getD b 0 0) maxReads l)
+      refused-reads l = simp (ha, hb, lt-leb (getD a 0 0 + getD b 0 0) maxReads l)
 
       module _ (hl : getD a 0 0 + getD b 0 0 ≤ maxReads) where
         -- too many extents
-        pub turned-extents : maxExtents < length (joinedFirst a b) → joinCall a b out ≡ refused 9 out
+        pub refused-extents : maxExtents < length (joinedFirst a b) → joinCall a b out ≡ refused 9 out
         unfolding joinCall readsOf
-        turned-extents l = simp (ha, hb, le-leb (getD a 0 0 + getD b 0 0) maxReads hl, lt-leb (length (joinedFirst a b)) maxExtents l)
+        refused-extents l = simp (ha, hb, le-leb (getD a 0 0 + getD b 0 0) maxReads hl, lt-leb (length (joinedFirst a b)) maxExtents l)
 
         module _ (hv : length (joinedFirst a b) ≤ maxExtents) where
           -- past the tests of the two summaries
@@ -53,9 +53,9 @@ module _ (a b out : List ℕ) where
           joins = simp (ha, hb, le-leb (getD a 0 0 + getD b 0 0) maxReads hl, le-leb (length (joinedFirst a b)) maxExtents hv)
 
           -- too few words for the answer
-          pub turned-room : length out < 2 + 3 * length (joinedFirst a b) → joinCall a b out ≡ refused 6 out
+          pub refused-room : length out < 2 + 3 * length (joinedFirst a b) → joinCall a b out ≡ refused 6 out
           unfolding wrote
-          turned-room l =
+          refused-room l =
               joins ∙ simp (lt-leb (length (joinOf a b)) (length out) (omega (arith, join-length a b ha hb)))
 
           -- the join is written

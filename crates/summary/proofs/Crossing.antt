@@ -86,6 +86,7 @@ module _ (stack : List ℕ) (n : ℕ) (reads hist : List ℕ) where
         let e : length (take held row) ≡ held = ap length (h .front) ∙ sym (h .size) in
         omega (arith, length-take held row, e)
 
+    -- the stack held is that long
     held-size : length (take held row) ≡ held
     held-size = length-take-le held row held-fits
 
@@ -124,12 +125,15 @@ module _ (stack : List ℕ) (n : ℕ) (reads hist : List ℕ) where
 
     -- a read at a distance: its place among the counts
     module _ (d : ℕ) (p : placeOf row held (getD reads i 0) ≡ Depth d) where
+      -- it is one of the places held
       range : (1 ≤ d) × (d ≤ held)
       range = place-range row held (getD reads i 0) held-fits d p
 
+      -- it is at least 1
       pub count-from : 1 ≤ d
       count-from = range .0
 
+      -- its count is one of the row
       pub count-place : d - 1 < length counts
       count-place = omega (arith, range .0, range .1, counts-size, held-fits, h .long)
 
@@ -145,6 +149,7 @@ module _ (stack : List ℕ) (n : ℕ) (reads hist : List ℕ) where
             length-take i reads,
           )
 
+      -- and is one more with this read
       last-count : getD counts (d - 1) 0 + 1 ≡ getD hist (d - 1) 0 + suc (countAt (reuses (take n stack) (take i reads)) (suc (d - 1)))
       last-count = omega (arith, h .counted .each (d - 1) (omega (arith, count-place, h .counted .size)))
 
@@ -175,9 +180,11 @@ module _ (stack : List ℕ) (n : ℕ) (reads hist : List ℕ) where
 
     -- the turn as the code makes it, by the engine's answer r and the words that it left
     module _ (r : Place) (left others : List ℕ) (held' : ℕ) (p : r ≡ placeOf row held (getD reads i 0)) (q : left ≡ leftBy r held (getD reads i 0) row) where
+      -- a cold read
       pub turn-cold : r ≡ Cold → others ≡ counts → held' ≡ held + 1 → Crossing stack n reads hist left others held' (i + 1)
       turn-cold e f g = rw (q ∙ ap (λ (z : Place). leftBy z held (getD reads i 0) row) e, f, g) (cross-cold (sym p ∙ e))
 
+      -- a read at a distance
       pub turn-known : (d : ℕ) → r ≡ Depth d → others ≡ set counts (d - 1) (getD counts (d - 1) 0 + 1) → held' ≡ held
           → Crossing stack n reads hist left others held' (i + 1)
       turn-known d e f g = rw (q ∙ ap (λ (z : Place). leftBy z held (getD reads i 0) row) e, f, g) (cross-known d (sym p ∙ e))

@@ -82,17 +82,21 @@ pub record Putting (o : List ℕ) (at : ℕ) (k s row : List ℕ) (n i : ℕ) : 
   pub same : putAt row n (outside k (drop i s)) ≡ putAt o at (outside k s)
 
 module _ (o : List ℕ) (at : ℕ) (k s : List ℕ) where
+  -- before the first word
   pub put-start : at + length (outside k s) ≤ length o → Putting o at k s o at 0
   put-start h = record { within = omega arith; long = refl; fits = h; next = refl; same = refl }
 
   module _ (row : List ℕ) (n i : ℕ) (h : Putting o at k s row n i) where
+    -- what is to be put, with a word that does not stand in k
     pub put-ahead : i < length s → mem (getD s i 0) k ≡ false → n + suc (length (outside k (drop (i + 1) s))) ≡ at + length (outside k s)
     unfolding outside
     put-ahead l m = simp (next-word s i l, m) at (h .next)
 
+    -- there is room for that word
     pub put-room : i < length s → mem (getD s i 0) k ≡ false → n < length row
     put-room l m = omega (arith, put-ahead l m, h .long, h .fits)
 
+    -- it is put
     pub put-more : i < length s → mem (getD s i 0) k ≡ false → Putting o at k s (set row n (getD s i 0)) (n + 1) (i + 1)
     unfolding outside
     put-more l m =
@@ -105,6 +109,7 @@ module _ (o : List ℕ) (at : ℕ) (k s : List ℕ) where
           same = sym (put-cons row n (getD s i 0) (outside k (drop (i + 1) s)) (put-room l m)) ∙ e;
         }
 
+    -- a word that stands in k is passed
     pub put-same : i < length s → mem (getD s i 0) k ≡ true → Putting o at k s row n (i + 1)
     unfolding outside
     put-same l m = record {
@@ -115,6 +120,7 @@ module _ (o : List ℕ) (at : ℕ) (k s : List ℕ) where
       same = simp (next-word s i l, m) at (h .same);
     }
 
+    -- no word is left
     pub put-end : length s ≤ i → (n ≡ at + length (outside k s)) × (row ≡ putAt o at (outside k s))
     unfolding outside
     put-end l =

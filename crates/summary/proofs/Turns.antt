@@ -23,18 +23,22 @@ pub record Apart (s : List ℕ) (i : ℕ) : Type 0 where
   pub same : distinct (drop i s) ≡ distinct s
 
 module _ (s : List ℕ) where
+  -- before the first word
   pub apart-start : Apart s 0
   apart-start = record { within = omega arith; same = refl }
 
   module _ (i : ℕ) (h : Apart s i) where
+    -- a word that does not come again
     pub apart-turn : i < length s → mem (getD s i 0) (drop (i + 1) s) ≡ false → Apart s (i + 1)
     unfolding distinct
     apart-turn l m = record { within = omega arith; same = sym (sym (h .same) ∙ rw (next-word s i l) (simp m)) }
 
+    -- a word that comes again
     pub apart-not : i < length s → mem (getD s i 0) (drop (i + 1) s) ≡ true → false ≡ distinct s
     unfolding distinct
     apart-not l m = sym (sym (h .same) ∙ rw (next-word s i l) (simp m))
 
+    -- no word is left
     pub apart-end : length s ≤ i → true ≡ distinct s
     unfolding distinct
     apart-end l = sym (sym (h .same) ∙ rw (drop-of-length-le s {i = i} l))
@@ -45,18 +49,22 @@ pub record Among (s t : List ℕ) (i : ℕ) : Type 0 where
   pub same : allIn (drop i s) t ≡ allIn s t
 
 module _ (s t : List ℕ) where
+  -- before the first word
   pub among-start : Among s t 0
   among-start = record { within = omega arith; same = refl }
 
   module _ (i : ℕ) (h : Among s t i) where
+    -- a word of t
     pub among-turn : i < length s → mem (getD s i 0) t ≡ true → Among s t (i + 1)
     unfolding allIn
     among-turn l m = record { within = omega arith; same = sym (sym (h .same) ∙ rw (next-word s i l) (simp m)) }
 
+    -- a word that is not of t
     pub among-not : i < length s → mem (getD s i 0) t ≡ false → false ≡ allIn s t
     unfolding allIn
     among-not l m = sym (sym (h .same) ∙ rw (next-word s i l) (simp m))
 
+    -- no word is left
     pub among-end : length s ≤ i → true ≡ allIn s t
     unfolding allIn
     among-end l = sym (sym (h .same) ∙ rw (drop-of-length-le s {i = i} l))
@@ -68,17 +76,21 @@ pub record Summed (s : List ℕ) (t i : ℕ) : Type 0 where
   pub same : t + sum (drop i s) ≡ sum s
 
 module _ (s : List ℕ) where
+  -- before the first word
   pub sum-start : Summed s 0 0
   sum-start = record { within = omega arith; small = omega arith; same = omega arith }
 
   module _ (t i : ℕ) (h : Summed s t i) where
+    -- the sum by the next word and those after it
     pub sum-next : i < length s → t + (getD s i 0 + sum (drop (i + 1) s)) ≡ sum s
     unfolding sum
     sum-next l = rw (next-word s i l) at (h .same)
 
+    -- the next word is added
     pub sum-turn : i < length s → getD s i 0 < 2 ^ 32 → Summed s (t + getD s i 0) (i + 1)
     sum-turn l k = record { within = omega arith; small = omega (arith, h .small); same = omega (arith, sum-next l) }
 
+    -- no word is left
     pub sum-end : length s ≤ i → t ≡ sum s
     unfolding sum
     sum-end l = let e : t + 0 ≡ sum s = rw (drop-of-length-le s {i = i} l) at (h .same) in omega arith
@@ -90,20 +102,24 @@ pub record Left (k s : List ℕ) (n i : ℕ) : Type 0 where
   pub same : n + length (outside k (drop i s)) ≡ length (outside k s)
 
 module _ (k s : List ℕ) where
+  -- before the first word
   pub left-start : Left k s 0 0
   left-start = record { within = omega arith; few = omega arith; same = omega arith }
 
   module _ (n i : ℕ) (h : Left k s n i) where
+    -- a word that does not stand in k
     pub left-more : i < length s → mem (getD s i 0) k ≡ false → Left k s (n + 1) (i + 1)
     unfolding outside
     left-more l m =
         let e : n + suc (length (outside k (drop (i + 1) s))) ≡ length (outside k s) = simp (next-word s i l, m) at (h .same) in
         record { within = omega arith; few = omega (arith, h .few); same = omega arith }
 
+    -- a word that does
     pub left-same : i < length s → mem (getD s i 0) k ≡ true → Left k s n (i + 1)
     unfolding outside
     left-same l m = record { within = omega arith; few = omega (arith, h .few); same = simp (next-word s i l, m) at (h .same) }
 
+    -- no word is left
     pub left-end : length s ≤ i → n ≡ length (outside k s)
     unfolding outside
     left-end l = let e : n + 0 ≡ length (outside k s) = rw (drop-of-length-le s {i = i} l) at (h .same) in omega arith
@@ -117,10 +133,12 @@ pub record Adding (s t row : List ℕ) (i : ℕ) : Type 0 where
   pub rest : (j : ℕ) → i ≤ j → getD row j 0 ≡ getD s j 0
 
 module _ (s t : List ℕ) where
+  -- before the first word
   pub add-start : length t ≤ length s → Adding s t s 0
   add-start h = record { within = omega arith; fits = h; long = refl; done = λ j l. absurd (omega arith); rest = λ j l. refl }
 
   module _ (row : List ℕ) (i : ℕ) (h : Adding s t row i) where
+    -- the next word is added
     pub add-turn : i < length t → Adding s t (set row i (getD row i 0 + getD t i 0)) (i + 1)
     add-turn l =
         let v : ℕ = getD row i 0 + getD t i 0 in
@@ -135,6 +153,7 @@ module _ (s t : List ℕ) where
           rest = λ j k. getD-set-other row i j v 0 (λ e. omega arith) ∙ h .rest j (omega arith);
         }
 
+    -- no word is left
     pub add-end : length t ≤ i → Added s t row
     add-end l = record {
       size = h .long;

@@ -41,6 +41,7 @@ pub record Shaped (w : List ℕ) : Type 0 where
   pub few : getD w 1 0 ≤ maxExtents
   pub short : getD w 0 0 ≤ maxReads
 
+-- well-formed words, with their sizes
 pub record Given (w : List ℕ) : Type 0 where
   pub formed : wellFormed w ≡ true
   pub shape : Shaped w

@@ -69,18 +69,19 @@ pub fn join(a: &[u32], b: &[u32], out: &mut [u32]) -> Written
     if !well_formed(b) {
         return Written::Refused(5);
     }
-    if reuse::MAX_READS < a[0] + b[0] {
+    let total = a[0] + b[0];
+    let extents = joining::extents(a, b);
+    if reuse::MAX_READS < total {
         return Written::Refused(8);
     }
-    let v = joining::extents(a, b);
-    if reuse::MAX_EXTENTS < v {
+    if reuse::MAX_EXTENTS < extents {
         return Written::Refused(9);
     }
-    let need = 2 + 3 * v;
+    let need = 2 + 3 * extents;
     if out.len() < need {
         return Written::Refused(6);
     }
-    joining::write(a, b, out, v);
+    joining::write(a, b, out, extents);
     Written::Words(need)
 }
 

@@ -132,14 +132,13 @@ slice-aggregate-cross-2 c = search needs
 cross-requires : tie.Need-cross-requires
 cross-requires c κs =
     let g = c .before .before .before .before .before .before .before .before .before .before .before .before .before .before .before .before .before .before .before in
-    rw (first-part (g .args .b .now))
-    (countable (g .args .a .now) (g .args .b .now) (g .pre) _ _ _ (stacked (c .before .before .before .before .before .before .before .before .before .before .before .before)) (once-added (c .before .before .before .before .before .before .before .before)) (twice-added (c .before .before .before .before)))
+    countable (g .args .a .now) (g .args .b .now) (g .pre) _ _ _ (stacked (c .before .before .before .before .before .before .before .before .before .before .before .before)) (once-added (c .before .before .before .before .before .before .before .before)) (twice-added (c .before .before .before .before)) _ (first-part (g .args .b .now))
 
 returns : tie.Need-returns
 returns c =
     let g = c .before .before .before .before .before .before .before .before .before .before .before .before .before .before .before .before .before .before .before .before .before .before in
-    counted (g .args .a .now) (g .args .b .now) (g .pre) _ _ _ (stacked (c .before .before .before .before .before .before .before .before .before .before .before .before .before .before .before)) (once-added (c .before .before .before .before .before .before .before .before .before .before .before)) (twice-added (c .before .before .before .before .before .before .before)) _
-    (rw (first-part (g .args .b .now)) at (c .before .before .cross .ensures))
+    counted (g .args .a .now) (g .args .b .now) (g .pre) _ _ _ (stacked (c .before .before .before .before .before .before .before .before .before .before .before .before .before .before .before)) (once-added (c .before .before .before .before .before .before .before .before .before .before .before)) (twice-added (c .before .before .before .before .before .before .before)) _ (first-part (g .args .b .now)) _
+    (c .before .before .cross .ensures)
 
 pub counts-spec : {M : Type 1} → statement M
 counts-spec =
