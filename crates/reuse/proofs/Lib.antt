@@ -13,5 +13,6 @@ pub mod Formed
 pub mod Misses
 pub mod Passes
 pub mod Engine
+pub mod Runs
 pub mod Slices
 pub mod Examples
