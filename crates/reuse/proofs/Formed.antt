@@ -2,7 +2,7 @@
 use mathlib.Core.Path.{_≡_, refl, sym, ap, _∙_}
 use Prim.Native.Nat.{ℕ, _+_, _*_, _≤_}
 use native.Mathlib.Omega.{arith}
-use mathlib.Core.List.{List, [], _∷_, map, foldl}
+use mathlib.Core.List.{List, [], _∷_, _++_, map, foldl}
 use mathlib.Core.Bool.{true, _||_, or-true, or-comm}
 use lib.Dec.{eqb, ltb}
 use lib.ListN.{length, length-append, length-map}
@@ -11,7 +11,7 @@ use Rattle.reuse.specs.Limits.{maxReads, maxExtents}
 use Rattle.reuse.specs.Lists.{mem, remove, firsts, cleanup, distinct, outside, from, sum, count}
 use Rattle.reuse.specs.Lru.{depth, touch, reuses, countAt}
 use Rattle.reuse.specs.Summary.{words, histogram, summaryOf, wellFormed, readsOf, extentsOf, firstOf, recentOf, countsOf, joinedFirst, joinedRecent, shared, across, countFor, joinedCount, joinedCounts, joinOf}
-use Rattle.reuse.proofs.Lists.{by-test, both, remove-absent, mem-beside}
+use Rattle.reuse.proofs.Lists.{by-test, both, mem-append, mem-firsts, remove-absent, mem-beside}
 use Rattle.reuse.proofs.Distinct.{distinct-firsts, length-remove, distinct-beside}
 use Rattle.reuse.proofs.Sizes.{fewer, same-size, full-distinct, full-same, all-in, in-all, length-split}
 use Rattle.reuse.proofs.Stack.{distinct-from}
@@ -58,6 +58,13 @@ module _ (w : List ℕ) (f : Formed w) where
   -- R has the extents of F, and no others
   pub recent-first : (x : ℕ) → mem x (recentOf w) ≡ mem x (firstOf w)
   recent-first = full-same (firstOf w) (recentOf w) (f .once) (f .held) (recent-length w (f .long) ∙ sym (first-length w (f .long)))
+
+-- reads after R of well-formed words: the stack then has the extents of F and of the reads
+pub prefix-stack : (w : List ℕ) → Formed w → (reads : List ℕ) → length (foldl touch (recentOf w) reads) ≡ length (firsts (firstOf w ++ reads))
+prefix-stack w f reads =
+    same-size (foldl touch (recentOf w) reads) (firsts (firstOf w ++ reads)) (distinct-from (recentOf w) reads (recent-distinct w f)) (distinct-firsts (firstOf w ++ reads))
+    (λ x. mem-over x (recentOf w) reads ∙ rw (recent-first w f x)
+    (or-comm (mem x reads) (mem x (firstOf w)) ∙ sym (mem-firsts x (firstOf w ++ reads) ∙ mem-append x (firstOf w) reads)))
 
 -- the test passes on all such words
 pub well-formed : (w : List ℕ) → Formed w → wellFormed w ≡ true

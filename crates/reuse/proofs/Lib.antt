@@ -14,5 +14,6 @@ pub mod Misses
 pub mod Passes
 pub mod Engine
 pub mod Runs
+pub mod Laying
 pub mod Slices
 pub mod Examples

@@ -3,9 +3,10 @@ use Prim.Native.Nat.{ℕ, suc}
 use mathlib.Core.List.{List, _∷_, _++_}
 use mathlib.Core.Bool.{Bool, cond}
 use lib.Dec.{leb, ltb}
-use lib.ListN.{length, take, drop}
+use lib.ListN.{length, take, drop, replicate}
 use Rattle.reuse.specs.declared.Place.{Place}
 use Rattle.reuse.specs.declared.Place.the-variants.{Cold, Depth, Full, BadCount}
+use Rattle.reuse.specs.Limits.{maxExtents}
 use Rattle.reuse.specs.Lru.{Reuse, cold, at, depth}
 
 -- the answer by the extent's depth, and by whether there is room for one more
@@ -34,3 +35,7 @@ heldAfter Cold n = suc n
 heldAfter (Depth d) n = n
 heldAfter Full n = n
 heldAfter BadCount n = n
+
+-- a stack of these extents: as many as the limit, 0 in the places below them
+unfoldable pub stackWords : List ℕ → List ℕ
+stackWords extents = take maxExtents extents ++ drop (length extents) (replicate maxExtents 0)

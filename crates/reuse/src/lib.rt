@@ -4,7 +4,7 @@ ghost use mathlib.Core.List.{[], _∷_, _++_};
 ghost use lib.ListN.{drop};
 ghost use Rattle.reuse.specs.Limits.{maxReads, maxExtents};
 ghost use Rattle.reuse.specs.Lists.{mem};
-ghost use Rattle.reuse.specs.Engine.{placeOf, leftBy};
+ghost use Rattle.reuse.specs.Engine.{placeOf, leftBy, stackWords};
 
 // The most reads of a trace.
 pub const MAX_READS: u32 = 1048576;
@@ -77,6 +77,23 @@ fn move_back(stack: &mut [u32], last: u32)
         stack[i] = carry;
         carry = y;
     }
+}
+
+// A stack that holds these extents, the first on top: as many as the limit, 0 in the places below them.
+pub fn stack_of(extents: &[u32]) -> [u32; MAX_EXTENTS]
+    ensures { λ r. ⌜ r ≡ stackWords (now (extents .entry)) ⌝ }
+{
+    let mut n = extents.len();
+    if MAX_EXTENTS < n {
+        n = MAX_EXTENTS;
+    }
+    let mut stack = [0u32; MAX_EXTENTS];
+    let mut i: usize = 0;
+    while i < n {
+        stack[i] = extents[i];
+        i = i + 1;
+    }
+    stack
 }
 
 // Whether x stands in the slice. No early exit: the loop is vectorized.

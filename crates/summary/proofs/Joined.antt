@@ -4,17 +4,17 @@ use Prim.Native.Nat.{ℕ, zero, suc, _+_, _≤_}
 use native.Mathlib.Omega.{arith}
 use mathlib.Core.List.{List, foldl}
 use lib.Dec.{eqb}
-use lib.ListN.{length, take, drop, getD, replicate, length-replicate}
-use lib.Seq.{take-at}
+use lib.ListN.{length, take, getD, replicate, length-replicate}
 use Rattle.reuse.specs.Limits.{maxReads, maxExtents}
 use Rattle.reuse.specs.Lists.{count}
 use Rattle.reuse.specs.Lru.{touch, reuses, countAt}
 use Rattle.reuse.specs.Summary.{readsOf, extentsOf, firstOf, recentOf, countsOf, countFor, joinedCount}
 use Rattle.reuse.proofs.Counts.{finite, count-finite, word-sum, take-from}
+use Rattle.reuse.specs.Engine.{stackWords}
+use Rattle.reuse.proofs.Laying.{stack-front, stack-length}
 use Rattle.reuse.proofs.Words.{recent-length, first-length}
 use Rattle.reuse.proofs.Formed.{formed, recent-distinct, join-distances, joined-stack}
-use Rattle.summary.specs.Rows.{putAt, Added, Counted, Countable, Given, Near, JoinedRow}
-use Rattle.summary.proofs.Puts.{put-length}
+use Rattle.summary.specs.Rows.{Added, Counted, Countable, Given, Near, JoinedRow}
 
 -- a row of zeros has no other word
 pub zero-word : (n i : ℕ) → getD {A = ℕ} (replicate n 0) i 0 ≡ 0
@@ -34,16 +34,9 @@ module _ (w : List ℕ) (g : Given w) where
   unfolding readsOf
   count-small i = omega (arith, word-sum (countsOf w) i, formed w (g .formed) .total, g .shape .short)
 
-  -- R at the front of the stack's words
-  module _ (stack : List ℕ) (e : stack ≡ putAt (replicate maxExtents 0) 0 (recentOf w)) where
-    -- the front is R
-    pub stack-front : take (getD w 1 0) stack ≡ recentOf w
-    unfolding putAt
-    stack-front = rw e (take-at (recentOf w) (drop (0 + length (recentOf w)) (replicate maxExtents 0)) (getD w 1 0) recent-size)
-
-    -- the whole has as many words as the limit
-    pub stack-size : length stack ≡ maxExtents
-    stack-size = rw e (put-length (replicate maxExtents 0) 0 (recentOf w) (omega (arith, recent-size, g .shape .few)))
+  -- R fits a stack
+  pub recent-few : length (recentOf w) ≤ maxExtents
+  recent-few = omega (arith, recent-size, g .shape .few)
 
 module _ (a b : List ℕ) (g : Near a b) where
   -- the stack after F of B holds no more than the extents of the join
@@ -51,9 +44,17 @@ module _ (a b : List ℕ) (g : Near a b) where
   room = omega (arith, joined-stack a b (formed a (g .left .formed)) (formed b (g .right .formed)), g .few)
 
   module _ (stack one two : List ℕ)
-      (es : stack ≡ putAt (replicate maxExtents 0) 0 (recentOf a))
+      (es : stack ≡ stackWords (recentOf a))
       (e1 : Added (replicate maxExtents 0) (countsOf a) one)
       (e2 : Added one (countsOf b) two) where
+    -- R of A is the front of the stack
+    front : take (getD a 1 0) stack ≡ recentOf a
+    front = rw (es, ← recent-size a (g .left)) (stack-front (recentOf a) (recent-few a (g .left)))
+
+    -- the stack has room for the limit
+    whole : length stack ≡ maxExtents
+    whole = rw es (stack-length (recentOf a) (recent-few a (g .left)))
+
     -- as many counts as extents
     pub two-size : length two ≡ maxExtents
     two-size = e2 .size ∙ e1 .size ∙ length-replicate {A = ℕ} maxExtents 0
@@ -67,13 +68,11 @@ module _ (a b : List ℕ) (g : Near a b) where
       pub countable : Countable stack (getD a 1 0) reads two
       unfolding extentsOf
       countable =
-          let f = stack-front a (g .left) stack es in
-          let n = stack-size a (g .left) stack es in
           record {
-            held = omega (arith, n, g .left .shape .few);
-            once = rw f (recent-distinct a (formed a (g .left .formed)));
-            room = rw (er, f, n) room;
-            wide = two-size ∙ sym n;
+            held = omega (arith, whole, g .left .shape .few);
+            once = rw front (recent-distinct a (formed a (g .left .formed)));
+            room = rw (er, front, whole) room;
+            wide = two-size ∙ sym whole;
             small = λ i. omega (arith, two-word i, count-small a (g .left) i, count-small b (g .right) i, ap length er, first-length b (formed b (g .right .formed) .long), g .right .shape .few);
           }
 
@@ -87,7 +86,7 @@ module _ (a b : List ℕ) (g : Near a b) where
             front = λ v l. take-from (joinedCount a b) row 1 v (omega arith) (λ i k.
                 let s : 1 + i ≡ suc i = omega arith in
                 let t : countAt (reuses (take (getD a 1 0) stack) reads) (suc i) ≡ count (eqb (suc i)) (finite (reuses (recentOf a) (firstOf b))) =
-                rw (er, stack-front a (g .left) stack es) (count-finite (reuses (recentOf a) (firstOf b)) (suc i)) in
+                rw (er, front) (count-finite (reuses (recentOf a) (firstOf b)) (suc i)) in
                 rw (s, sym (join-distances a b (formed a (g .left .formed)) (formed b (g .right .formed))))
                 (omega (arith, c .each i (omega (arith, c .size)), two-word i, t)));
           }

@@ -1,27 +1,28 @@
 -- `summary::joining::counts` meets its contract.
-use mathlib.Core.Path.{_≡_}
+use mathlib.Core.Path.{_≡_, ap, _∙_}
 use native.Mathlib.Omega.{arith}
 use lib.ListN.{replicate}
 use Rattle.reuse.specs.Limits.{maxExtents}
 use Rattle.reuse.specs.Summary.{recentOf, countsOf}
-use Rattle.summary.specs.Rows.{putAt, Added}
+use Rattle.reuse.specs.Engine.{stackWords}
+use Rattle.summary.specs.Rows.{Added}
 use Rattle.summary.proofs.Fields.{first-part, recent-part, counts-part, counts-size}
-use Rattle.summary.proofs.Joined.{recent-size, count-small, zero-word, countable, counted}
+use Rattle.summary.proofs.Joined.{count-small, zero-word, countable, counted}
 use borrow.Author.Needs.{needs}
 use Rattle.summary.proofs.joining.counts.Statement.{statement}
 use Rattle.summary.proofs.joining.counts.Tie as tie
 
 -- R of A is in the stack
-stacked : (c : tie.After-put) → c .put .last .0 ≡ putAt (replicate maxExtents 0) 0 (recentOf (c .before .before .before .before .before .before .before .args .a .now))
-stacked c = rw (recent-part (c .before .before .before .before .before .before .before .args .a .now)) at (c .put .ensures .1)
+stacked : (c : tie.After-stack-of) → c .stack-of .result ≡ stackWords (recentOf (c .before .before .before .before .before .before .args .a .now))
+stacked c = c .stack-of .ensures ∙ ap stackWords (recent-part (c .before .before .before .before .before .before .args .a .now))
 
 -- H of A is counted
-once-added : (c : tie.After-add) → Added (replicate maxExtents 0) (countsOf (c .before .before .before .before .before .before .before .before .before .before .before .args .a .now)) (c .add .last .0)
-once-added c = rw (counts-part (c .before .before .before .before .before .before .before .before .before .before .before .args .a .now) (c .before .before .before .before .before .before .before .before .before .before .before .pre .left .shape)) at (c .add .ensures)
+once-added : (c : tie.After-add) → Added (replicate maxExtents 0) (countsOf (c .before .before .before .before .before .before .before .before .before .args .a .now)) (c .add .last .0)
+once-added c = rw (counts-part (c .before .before .before .before .before .before .before .before .before .args .a .now) (c .before .before .before .before .before .before .before .before .before .pre .left .shape)) at (c .add .ensures)
 
 -- and H of B
-twice-added : (c : tie.After-add2) → Added (c .before .before .before .before .add .last .0) (countsOf (c .before .before .before .before .before .before .before .before .before .before .before .before .before .before .before .args .b .now)) (c .add2 .last .0)
-twice-added c = rw (counts-part (c .before .before .before .before .before .before .before .before .before .before .before .before .before .before .before .args .b .now) (c .before .before .before .before .before .before .before .before .before .before .before .before .before .before .before .pre .right .shape)) at (c .add2 .ensures)
+twice-added : (c : tie.After-add2) → Added (c .before .before .before .before .add .last .0) (countsOf (c .before .before .before .before .before .before .before .before .before .before .before .before .before .args .b .now)) (c .add2 .last .0)
+twice-added c = rw (counts-part (c .before .before .before .before .before .before .before .before .before .before .before .before .before .args .b .now) (c .before .before .before .before .before .before .before .before .before .before .before .before .before .pre .right .shape)) at (c .add2 .ensures)
 
 shared-slice-read-va : tie.Need-shared-slice-read-va
 shared-slice-read-va c = search needs
@@ -47,25 +48,20 @@ add-ha c = search needs
 add-hb : tie.Need-add-hb
 add-hb c = search needs
 
-slice-aggregate-put : tie.Need-slice-aggregate-put
-slice-aggregate-put c = search needs
+mul-stack-of : tie.Need-mul-stack-of
+mul-stack-of c = search needs
 
-mul-put : tie.Need-mul-put
-mul-put c = search needs
+sub-stack-of : tie.Need-sub-stack-of
+sub-stack-of c = search needs
 
-sub-put : tie.Need-sub-put
-sub-put c = search needs
+part-stack-of-start : tie.Need-part-stack-of-start
+part-stack-of-start c = search needs
 
-part-put-start : tie.Need-part-put-start
-part-put-start c = search needs
+part-stack-of-end : tie.Need-part-stack-of-end
+part-stack-of-end c = search needs
 
-part-put-end : tie.Need-part-put-end
-part-put-end c = search needs
-
-put-requires : tie.Need-put-requires
-put-requires c κs =
-    let g = c .before .before .before .before .before .before in
-    rw (recent-part (g .args .a .now)) (omega (arith, recent-size (g .args .a .now) (g .pre .left), g .pre .left .shape .few))
+stack-of-requires : tie.Need-stack-of-requires
+stack-of-requires c κs = search needs
 
 slice-aggregate-add : tie.Need-slice-aggregate-add
 slice-aggregate-add c = search needs
@@ -84,7 +80,7 @@ part-add-end c = search needs
 
 add-requires : tie.Need-add-requires
 add-requires c κs =
-    let g = c .before .before .before .before .before .before .before .before .before .before in
+    let g = c .before .before .before .before .before .before .before .before in
     let a = g .args .a .now in
     rw (counts-part a (g .pre .left .shape))
     (omega (arith, counts-size a (g .pre .left .formed), g .pre .left .shape .few), λ i. omega (arith, zero-word maxExtents i, count-small a (g .pre .left) i))
@@ -106,7 +102,7 @@ part-add-end-2 c = search needs
 
 add-requires-2 : tie.Need-add-requires-2
 add-requires-2 c κs =
-    let g = c .before .before .before .before .before .before .before .before .before .before .before .before .before .before in
+    let g = c .before .before .before .before .before .before .before .before .before .before .before .before in
     let b = g .args .b .now in
     let e = once-added (c .before .before .before) in
     rw (counts-part b (g .pre .right .shape)) (
@@ -131,13 +127,13 @@ slice-aggregate-cross-2 c = search needs
 
 cross-requires : tie.Need-cross-requires
 cross-requires c κs =
-    let g = c .before .before .before .before .before .before .before .before .before .before .before .before .before .before .before .before .before .before .before in
-    countable (g .args .a .now) (g .args .b .now) (g .pre) _ _ _ (stacked (c .before .before .before .before .before .before .before .before .before .before .before .before)) (once-added (c .before .before .before .before .before .before .before .before)) (twice-added (c .before .before .before .before)) _ (first-part (g .args .b .now))
+    let g = c .before .before .before .before .before .before .before .before .before .before .before .before .before .before .before .before .before in
+    countable (g .args .a .now) (g .args .b .now) (g .pre) _ _ _ (stacked (c .before .before .before .before .before .before .before .before .before .before .before)) (once-added (c .before .before .before .before .before .before .before .before)) (twice-added (c .before .before .before .before)) _ (first-part (g .args .b .now))
 
 returns : tie.Need-returns
 returns c =
-    let g = c .before .before .before .before .before .before .before .before .before .before .before .before .before .before .before .before .before .before .before .before .before .before in
-    counted (g .args .a .now) (g .args .b .now) (g .pre) _ _ _ (stacked (c .before .before .before .before .before .before .before .before .before .before .before .before .before .before .before)) (once-added (c .before .before .before .before .before .before .before .before .before .before .before)) (twice-added (c .before .before .before .before .before .before .before)) _ (first-part (g .args .b .now)) _
+    let g = c .before .before .before .before .before .before .before .before .before .before .before .before .before .before .before .before .before .before .before .before in
+    counted (g .args .a .now) (g .args .b .now) (g .pre) _ _ _ (stacked (c .before .before .before .before .before .before .before .before .before .before .before .before .before .before)) (once-added (c .before .before .before .before .before .before .before .before .before .before .before)) (twice-added (c .before .before .before .before .before .before .before)) _ (first-part (g .args .b .now)) _
     (c .before .before .cross .ensures)
 
 pub counts-spec : {M : Type 1} → statement M
@@ -152,12 +148,11 @@ counts-spec =
     add-rb
     add-ha
     add-hb
-    slice-aggregate-put
-    mul-put
-    sub-put
-    part-put-start
-    part-put-end
-    put-requires
+    mul-stack-of
+    sub-stack-of
+    part-stack-of-start
+    part-stack-of-end
+    stack-of-requires
     slice-aggregate-add
     mul-add
     sub-add
