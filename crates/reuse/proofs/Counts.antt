@@ -5,7 +5,7 @@ use native.Mathlib.Omega.{arith}
 use native.Mathlib.Nat.{zero-add, suc-add, add-zero, add-suc}
 use mathlib.Core.Logic.{_≢_}
 use mathlib.Core.List.{List, [], _∷_, _++_, map}
-use mathlib.Core.Bool.{Bool, true, false, cond}
+use mathlib.Core.Bool.{Bool, true, false, cond, not}
 use lib.Dec.{eqb, ltb}
 use lib.ListN.{length, take, drop, getD}
 use borrow.Author.Tests.{eqb-true, eqb-false, ne-eqb, ltb-true, ltb-false}
@@ -37,6 +37,26 @@ pub count-le : {A : Type 0} (p : A → Bool) (l : List A) → count p l ≤ leng
 unfolding count
 count-le p [] = omega arith
 count-le p (x ∷ l) = let i : count p l ≤ length l = count-le p l in by-test (p x) (λ e. simp e (omega arith)) (λ e. simp e (omega arith))
+
+-- a word that is not counted is no member
+pub count-none : (l : List ℕ) (x : ℕ) → count (eqb x) l ≡ 0 → mem x l ≡ false
+unfolding count mem
+count-none [] x h = refl
+count-none (y ∷ l) x h =
+    by-test (eqb x y) (λ e. let z : suc (count (eqb x) l) ≡ 0 = simp e at h in absurd (omega arith)) (λ e. simp (e, count-none l x (simp e at h)))
+
+-- a word that is counted is one
+pub count-some : (l : List ℕ) (x : ℕ) → (count (eqb x) l ≡ 0 → ⊥) → mem x l ≡ true
+unfolding count mem
+count-some [] x h = absurd (h refl)
+count-some (y ∷ l) x h = by-test (eqb x y) (λ e. simp e) (λ e. simp (e, count-some l x (simp e at h)))
+
+-- the count tells whether x is a member
+pub count-test : (l : List ℕ) (x r : ℕ) → r ≡ count (eqb x) l → not (eqb r 0) ≡ mem x l
+count-test l x r e =
+    by-test (eqb r 0)
+    (λ q. rw q (sym (count-none l x (sym e ∙ eqb-true r 0 q))))
+    (λ q. rw q (sym (count-some l x (λ z. eqb-false r 0 q (e ∙ z)))))
 
 -- the distances among answers, in order
 unfoldable pub finite : List Reuse → List ℕ
@@ -85,13 +105,6 @@ pub sum-zero : (l : List ℕ) → sum (map (λ d. 0) l) ≡ 0
 unfolding sum
 sum-zero [] = refl
 sum-zero (x ∷ l) = let i : sum (map (λ d. 0) l) ≡ 0 = sum-zero l in omega arith
-
--- no word of a list is above its sum
-pub word-sum : (l : List ℕ) (i : ℕ) → getD l i 0 ≤ sum l
-unfolding sum
-word-sum [] i = omega arith
-word-sum (x ∷ l) zero = omega arith
-word-sum (x ∷ l) (suc i) = omega (arith, word-sum l i)
 
 -- the sum of a list, by its first c and the rest
 pub sum-split : (c : ℕ) (l : List ℕ) → sum (take c l) + sum (drop c l) ≡ sum l

@@ -203,7 +203,7 @@ unfolding summaryOf firsts cleanup remove reuses depth countAt count histogram f
 one-formed x = words-formed 1 (x ∷ []) (x ∷ []) (0 ∷ []) refl refl (omega arith) (omega arith) refl (λ z m. m) refl
 
 -- one more read in front has no fewer extents
-firsts-grow : (x : ℕ) (t : List ℕ) → length (firsts t) ≤ length (firsts (x ∷ t))
+pub firsts-grow : (x : ℕ) (t : List ℕ) → length (firsts t) ≤ length (firsts (x ∷ t))
 unfolding firsts
 firsts-grow x t =
     by-test (mem x (firsts t))

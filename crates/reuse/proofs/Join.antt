@@ -2,15 +2,15 @@
 use mathlib.Core.Path.{_≡_, refl, sym, ap, ap₂, _∙_, fun-ext}
 use Prim.Native.Nat.{ℕ, zero, suc, _+_, _≤_}
 use native.Mathlib.Omega.{arith}
-use mathlib.Core.List.{List, [], _++_, map, reverse}
+use mathlib.Core.List.{List, [], _∷_, _++_, map, reverse}
 use mathlib.Core.Bool.{true}
 use lib.ListN.{length, length-append}
 use Rattle.reuse.specs.Lists.{mem, firsts, cleanup, distinct, from, count}
-use Rattle.reuse.specs.Lru.{stack, reuses, isAt, countAt}
+use Rattle.reuse.specs.Lru.{depth, stack, reuses, isAt, countAt}
 use Rattle.reuse.specs.Summary.{histogram, summaryOf, firstOf, recentOf, joinedFirst, joinedRecent, shared, across, countFor, joinedCount, joinedCounts, joinOf}
 use Rattle.reuse.proofs.Lists.{by-test, mem-firsts, firsts-append, inside-same}
 use Rattle.reuse.proofs.Distinct.{distinct-firsts}
-use Rattle.reuse.proofs.Stack.{stack-law, distinct-stack, mem-stack, length-stack, reuses-append, recent-append}
+use Rattle.reuse.proofs.Stack.{stack-law, distinct-stack, mem-stack, length-stack, reuses-append, reuses-snoc, recent-append}
 use Rattle.reuse.proofs.Counts.{finite, count-finite, count-append, count-absent, getD-from}
 use Rattle.reuse.proofs.Across.{acrossOf, across-law, split-law, finite-range}
 use Rattle.reuse.proofs.Words.{reads-summary, first-summary, recent-summary, counts-summary}
@@ -27,6 +27,10 @@ count-range t d h =
     ∙ by-test (mem d (finite (reuses [] t)))
     (λ m. let r = reuse-range t d m in absurd (h (r .0) (r .1)))
     (λ m. count-absent d (finite (reuses [] t)) m)
+
+-- one more read adds its answer to the counts
+pub count-more : (t : List ℕ) (x d : ℕ) → countAt (reuses [] (t ++ (x ∷ []))) d ≡ countAt (reuses [] t) d + countAt (depth (stack t) x ∷ []) d
+count-more t x d = rw (reuses-snoc t x) (unfold countAt in count-append (isAt d) (reuses [] t) (depth (stack t) x ∷ []))
 
 -- the word of H for any distance
 pub histogram-at : (t : List ℕ) (d : ℕ) → countFor (histogram t) d ≡ countAt (reuses [] t) d

@@ -5,6 +5,7 @@ pub mod Stack
 pub mod Depth
 pub mod Cache
 pub mod Counts
+pub mod Sums
 pub mod Across
 pub mod Words
 pub mod Join

@@ -1,10 +1,11 @@
 -- Membership, removal and the two ways to drop repeats.
 use mathlib.Core.Path.{_≡_, refl, sym, ap, _∙_}
-use Prim.Native.Nat.{ℕ}
+use Prim.Native.Nat.{ℕ, zero, suc, _≤_, _<_}
 use native.Mathlib.Omega.{arith}
 use mathlib.Core.List.{List, [], _∷_, _++_, reverse, append-nil, reverse-cons}
 use mathlib.Core.Bool.{Bool, true, false, cond, not, _&&_, _||_, or-true, or-false, or-assoc, or-comm, and-false}
 use lib.Dec.{eqb}
+use lib.ListN.{length, take, getD}
 use borrow.Author.Tests.{eqb-true, eqb-false, eq-eqb, ne-eqb}
 use Rattle.reuse.specs.Lists.{mem, remove, cleanup, firsts, inside, outside}
 
@@ -46,6 +47,14 @@ mem-head x s = simp eqb-same
 pub mem-tail : (x y : ℕ) (s : List ℕ) → mem x s ≡ true → mem x (y ∷ s) ≡ true
 unfolding mem
 mem-tail x y s h = simp (h, or-true)
+
+-- a word of the front is a member of it
+pub mem-at : (l : List ℕ) (n p x : ℕ) → p < n → n ≤ length l → getD l p 0 ≡ x → mem x (take n l) ≡ true
+unfolding mem
+mem-at [] n p x h w e = absurd (omega arith)
+mem-at (y ∷ l) zero p x h w e = absurd (omega arith)
+mem-at (y ∷ l) (suc n) zero x h w e = simp (eq-eqb x y (sym e))
+mem-at (y ∷ l) (suc n) (suc p) x h w e = simp (mem-at l n p x (omega arith) (omega arith) e, or-true)
 
 -- a member of two lists end to end is one of either
 pub mem-append : (x : ℕ) (a b : List ℕ) → mem x (a ++ b) ≡ mem x a || mem x b
@@ -142,6 +151,10 @@ outside-reverse a [] = refl
 outside-reverse a (x ∷ s) =
     rw (reverse-cons x s, outside-append a (reverse s) (x ∷ []), outside-reverse a s)
     (by-test (mem x a) (λ e. simp (e, append-nil)) (λ e. simp (e, reverse-cons x (outside a s))))
+
+-- to remove and to turn round, in either order
+pub remove-reverse : (x : ℕ) (s : List ℕ) → remove x (reverse s) ≡ reverse (remove x s)
+remove-reverse x s = simp (remove-outside, outside-reverse)
 
 -- each member once at its first place: the same members
 pub mem-firsts : (x : ℕ) (s : List ℕ) → mem x (firsts s) ≡ mem x s

@@ -12,11 +12,11 @@ use Rattle.reuse.specs.Lru.{Reuse, cold, at, touch, stack, reuses, isCol
 use Rattle.reuse.specs.Cache.{cacheMisses}
 use Rattle.reuse.specs.Summary.{histogram, summaryOf, readsOf, countsOf, hitsOf, missesOf}
 use Rattle.reuse.proofs.Lists.{by-test, firsts-known, firsts-new}
-use Rattle.reuse.proofs.Stack.{stack-snoc, mem-stack}
+use Rattle.reuse.proofs.Stack.{length-reuses, stack-snoc, mem-stack}
 use Rattle.reuse.proofs.Depth.{depth-absent, depth-present}
 use Rattle.reuse.proofs.Cache.{cache-law}
 use Rattle.reuse.proofs.Counts.{finite, count-finite, above-finite, sum-counts, sum-split, drop-from}
-use Rattle.reuse.proofs.Words.{extents-summary, counts-summary}
+use Rattle.reuse.proofs.Words.{reads-summary, extents-summary, counts-summary}
 use Rattle.reuse.proofs.Join.{reuse-range}
 use Rattle.reuse.proofs.Formed.{Formed}
 
@@ -29,6 +29,17 @@ misses-count c (at d ∷ rs) =
     let i : count not (map (within c) rs) ≡ count isCold rs + count (isAbove c) rs = misses-count c rs in
     by-test (leb d c)
     (λ e. let g : ltb c d ≡ false = le-ltb c d (leb-true d c e) in simp (e, g) i)
+    (λ e. let g : ltb c d ≡ true = lt-ltb c d (leb-false d c e) in simp (e, g) (omega arith))
+
+-- an answer is a distance of at most c, or a miss at c
+pub within-misses : (c : ℕ) (rs : List Reuse) → count (within c) rs + missesAt c rs ≡ length rs
+unfolding count missesAt
+within-misses c [] = refl
+within-misses c (cold ∷ rs) = let i : count (within c) rs + (count isCold rs + count (isAbove c) rs) ≡ length rs = within-misses c rs in omega arith
+within-misses c (at d ∷ rs) =
+    let i : count (within c) rs + (count isCold rs + count (isAbove c) rs) ≡ length rs = within-misses c rs in
+    by-test (leb d c)
+    (λ e. let g : ltb c d ≡ false = le-ltb c d (leb-true d c e) in simp (e, g) (omega arith))
     (λ e. let g : ltb c d ≡ true = lt-ltb c d (leb-false d c e) in simp (e, g) (omega arith))
 
 -- the misses of the cache of size c are the cold reads plus the reads of distance above c
@@ -77,3 +88,8 @@ summary-cache c t = summary-misses c t ∙ sym (cache-misses c t)
 pub hits-misses : (c : ℕ) (w : List ℕ) → Formed w → hitsOf w c + missesOf w c ≡ readsOf w
 unfolding hitsOf missesOf
 hits-misses c w f = omega (arith, sum-split c (countsOf w), f .total)
+
+-- the hits from the summary of a trace within the limits are its reads of distance at most c
+pub summary-hits : (c : ℕ) (t : List ℕ) → Formed (summaryOf t) → hitsOf (summaryOf t) c ≡ count (within c) (reuses [] t)
+summary-hits c t f =
+    omega (arith, hits-misses c (summaryOf t) f, reads-summary t, summary-misses c t, within-misses c (reuses [] t), length-reuses [] t)

@@ -93,6 +93,12 @@ in-all (y ∷ a) b h x m =
     let p = both (mem y b) (allIn a b) h in
     by-test (eqb x y) (λ e. rw (eqb-true x y e) (p .0)) (λ e. in-all a b (p .1) x (simp e at m))
 
+-- the members of two lists are the same where each is in the other
+pub all-same : (a b : List ℕ) → allIn a b ≡ true → allIn b a ≡ true → (y : ℕ) → mem y a ≡ mem y b
+all-same a b h g y =
+    by-test (mem y a) (λ m. m ∙ sym (in-all a b h y m))
+    (λ m. by-test (mem y b) (λ n. clash (in-all b a g y n) m) (λ n. m ∙ sym n))
+
 -- the members inside and those outside make up the list
 pub length-split : (a s : List ℕ) → length (inside a s) + length (outside a s) ≡ length s
 unfolding inside outside

@@ -8,3 +8,15 @@ maxReads = 1_048_576
 -- the most different extents of a trace
 abbrev pub maxExtents : ℕ
 maxExtents = 256
+
+-- the slots of a session
+abbrev pub slotCount : ℕ
+slotCount = 512
+
+-- the sums of a session: a full binary tree over its slots
+abbrev pub sumCount : ℕ
+sumCount = 1_023
+
+-- the levels of that tree above its leaves, as many as a slot's number has binary digits
+abbrev pub levels : ℕ
+levels = 9

@@ -1,6 +1,6 @@
 -- H of a join, counted on the stack of A.
-use mathlib.Core.Path.{_≡_, refl, sym, ap, _∙_}
-use Prim.Native.Nat.{ℕ, zero, suc, _+_, _≤_}
+use mathlib.Core.Path.{_≡_, sym, ap, _∙_}
+use Prim.Native.Nat.{ℕ, suc, _+_, _≤_}
 use native.Mathlib.Omega.{arith}
 use mathlib.Core.List.{List, foldl}
 use lib.Dec.{eqb}
@@ -9,18 +9,13 @@ use Rattle.reuse.specs.Limits.{maxReads, maxExtents}
 use Rattle.reuse.specs.Lists.{count}
 use Rattle.reuse.specs.Lru.{touch, reuses, countAt}
 use Rattle.reuse.specs.Summary.{readsOf, extentsOf, firstOf, recentOf, countsOf, countFor, joinedCount}
-use Rattle.reuse.proofs.Counts.{finite, count-finite, word-sum, take-from}
+use Rattle.reuse.proofs.Counts.{finite, count-finite, take-from}
+use Rattle.reuse.proofs.Sums.{getD-zeros, at-le-sum}
 use Rattle.reuse.specs.Engine.{stackWords}
 use Rattle.reuse.proofs.Laying.{stack-front, stack-length}
 use Rattle.reuse.proofs.Words.{recent-length, first-length}
 use Rattle.reuse.proofs.Formed.{formed, recent-distinct, join-distances, joined-stack}
 use Rattle.summary.specs.Rows.{Added, Counted, Countable, Given, Near, JoinedRow}
-
--- a row of zeros has no other word
-pub zero-word : (n i : ℕ) → getD {A = ℕ} (replicate n 0) i 0 ≡ 0
-zero-word zero i = refl
-zero-word (suc n) zero = refl
-zero-word (suc n) (suc i) = zero-word n i
 
 -- R of well-formed words
 module _ (w : List ℕ) (g : Given w) where
@@ -32,7 +27,7 @@ module _ (w : List ℕ) (g : Given w) where
   -- a word of H is at most the reads
   pub count-small : (i : ℕ) → getD (countsOf w) i 0 ≤ maxReads
   unfolding readsOf
-  count-small i = omega (arith, word-sum (countsOf w) i, formed w (g .formed) .total, g .shape .short)
+  count-small i = omega (arith, at-le-sum (countsOf w) i, formed w (g .formed) .total, g .shape .short)
 
   -- R fits a stack
   pub recent-few : length (recentOf w) ≤ maxExtents
@@ -61,7 +56,7 @@ module _ (a b : List ℕ) (g : Near a b) where
 
     -- the counts of both sides
     pub two-word : (i : ℕ) → getD two i 0 ≡ getD (countsOf a) i 0 + getD (countsOf b) i 0
-    two-word i = omega (arith, e2 .each i, e1 .each i, zero-word maxExtents i)
+    two-word i = omega (arith, e2 .each i, e1 .each i, getD-zeros maxExtents i)
 
     module _ (reads : List ℕ) (er : reads ≡ firstOf b) where
       -- F of B can be taken after the stack

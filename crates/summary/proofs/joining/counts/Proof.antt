@@ -5,9 +5,10 @@ use lib.ListN.{replicate}
 use Rattle.reuse.specs.Limits.{maxExtents}
 use Rattle.reuse.specs.Summary.{recentOf, countsOf}
 use Rattle.reuse.specs.Engine.{stackWords}
+use Rattle.reuse.proofs.Sums.{getD-zeros}
 use Rattle.summary.specs.Rows.{Added}
 use Rattle.summary.proofs.Fields.{first-part, recent-part, counts-part, counts-size}
-use Rattle.summary.proofs.Joined.{count-small, zero-word, countable, counted}
+use Rattle.summary.proofs.Joined.{count-small, countable, counted}
 use borrow.Author.Needs.{needs}
 use Rattle.summary.proofs.joining.counts.Statement.{statement}
 use Rattle.summary.proofs.joining.counts.Tie as tie
@@ -83,7 +84,7 @@ add-requires c κs =
     let g = c .before .before .before .before .before .before .before .before in
     let a = g .args .a .now in
     rw (counts-part a (g .pre .left .shape))
-    (omega (arith, counts-size a (g .pre .left .formed), g .pre .left .shape .few), λ i. omega (arith, zero-word maxExtents i, count-small a (g .pre .left) i))
+    (omega (arith, counts-size a (g .pre .left .formed), g .pre .left .shape .few), λ i. omega (arith, getD-zeros maxExtents i, count-small a (g .pre .left) i))
 
 slice-aggregate-add-2 : tie.Need-slice-aggregate-add-2
 slice-aggregate-add-2 c = search needs
@@ -107,7 +108,7 @@ add-requires-2 c κs =
     let e = once-added (c .before .before .before) in
     rw (counts-part b (g .pre .right .shape)) (
       omega (arith, counts-size b (g .pre .right .formed), g .pre .right .shape .few, e .size),
-      λ i. omega (arith, e .each i, zero-word maxExtents i, count-small (g .args .a .now) (g .pre .left) i, count-small b (g .pre .right) i),
+      λ i. omega (arith, e .each i, getD-zeros maxExtents i, count-small (g .args .a .now) (g .pre .left) i, count-small b (g .pre .right) i),
     )
 
 slice-aggregate-cross : tie.Need-slice-aggregate-cross

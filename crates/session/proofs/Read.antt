@@ -1,0 +1,177 @@
+-- The laws of a read: of a sound session, and of one that has read a trace.
+use Prim.Native.Nat.{ℕ, suc, _+_, _-_, _≤_, _<_}
+use mathlib.Core.Path.{_≡_, refl, sym, ap, _∙_}
+use mathlib.Core.List.{List, [], _∷_, _++_, map}
+use mathlib.Core.Bool.{Bool, true, false, cond, not, _&&_}
+use native.Mathlib.Omega.{arith}
+use lib.Dec.{eqb}
+use lib.ListN.{length, getD, length-append}
+use borrow.Author.Tests.{eq-eqb, ne-eqb, eqb-true, eqb-false, not-true}
+use Rattle.reuse.specs.Lists.{mem, firsts, sum}
+use Rattle.reuse.specs.Lru.{Reuse, cold, at, depth, stack}
+use Rattle.reuse.specs.Limits.{maxReads, maxExtents, slotCount, levels}
+use Rattle.session.specs.declared.Session.{Session}
+use Rattle.session.specs.declared.Step.{Step}
+use Rattle.session.specs.declared.Answer.{Answer}
+use Rattle.session.specs.declared.Answer.the-variants.{Distance, Refused}
+use Rattle.session.specs.Sums.{neighbours}
+use Rattle.session.specs.Sessions.{marks, extents, stackOf, sound}
+use Rattle.session.specs.Reads.{roomed, slotOf, stepAt, taken, turnedAway, tooMany, readOf}
+use Rattle.session.specs.Steps.{Wide}
+use Rattle.reuse.proofs.Lists.{by-test, both}
+use Rattle.reuse.proofs.Stack.{mem-stack}
+use Rattle.session.proofs.Walks.{neighbours-count, neighbours-total}
+use Rattle.session.proofs.Sound.{Kept, Sound, full, true-sound, kept-sound, kept-wide, kept-few, kept-trued}
+use Rattle.session.proofs.Taken.{kept-roomed, kept-taken, taken-reads, slot-below, slot-depth}
+use Rattle.session.proofs.Stands.{Stands, stands-known, known-stands, known-extents, known-roomed, known-taken}
+
+-- a sound session's read, refused or not, leaves a sound session, whether or not a trace gave it
+module _ (s : Session) (w : Wide (s .first) (s .hist) (s .slots) (s .sums)) (ok : sound s ≡ true) (x : ℕ) where
+  -- the facts of the test
+  facts : Sound s
+  facts = true-sound s w ok
+
+  -- an accepted read leaves sound rows
+  taken-kept : tooMany s x ≡ false → Kept (taken (roomed s) x .session)
+  unfolding tooMany
+  taken-kept few =
+      let m = kept-roomed s (facts .kept) in
+      kept-taken (roomed s) (m .kept) x (m .room)
+      (λ new. let f : eqb (extents s) maxExtents ≡ false = simp (sym (ap (mem x) (m .stacked)) ∙ new) at few in
+      omega (arith, m .counted, kept-few s (facts .kept), eqb-false (extents s) maxExtents f))
+
+  -- a read leaves sound rows, and no more reads than the limit
+  pub read-keeps : Kept (readOf s x .session) × (readOf s x .session .reads ≤ maxReads)
+  unfolding readOf
+  read-keeps =
+      let m = kept-roomed s (facts .kept) in
+      by-test (eqb (s .reads) maxReads)
+      (λ e. simp (ok, e) (facts .kept, facts .short))
+      (λ e. by-test (tooMany s x)
+      (λ f. simp (ok, e, f) (facts .kept, facts .short))
+      (λ f. simp (ok, e, f) (
+        taken-kept f,
+        omega (arith, taken-reads (roomed s) (m .kept) x (m .room), m .reads, facts .short, eqb-false (s .reads) maxReads e),
+      )))
+
+  -- so it is sound
+  pub read-sound : sound (readOf s x .session) ≡ true
+  read-sound = kept-sound (readOf s x .session) (read-keeps .0) (read-keeps .1)
+
+  -- its arrays keep their widths
+  pub read-wide : let r = readOf s x .session in Wide (r .first) (r .hist) (r .slots) (r .sums)
+  read-wide = kept-wide (readOf s x .session) (read-keeps .0)
+
+-- the sums that a read of a known extent reads: the right-hand neighbours on the way up from its slot
+abbrev pub onTheWay : Session → ℕ → List ℕ
+onTheWay s x = neighbours slotCount levels (slotOf s x)
+
+-- its distance is 1 plus the total of those sums, and the number of sums read is how many they are
+pub taken-neighbours : (s : Session) → Kept s → (x : ℕ) → mem x (stackOf s) ≡ true
+    → taken s x .answer ≡ Distance (suc (sum (map (λ p. getD (s .sums) p 0) (onTheWay s x)))) (length (onTheWay s x))
+unfolding taken
+taken-neighbours s k x old =
+    let below : slotOf s x < slotCount = omega (arith, slot-below s k x old, k .rows .low) in
+    rw (
+      slot-depth s k x old,
+      neighbours-total levels slotCount (s .sums) (slotOf s x) (kept-trued s k) full below,
+      neighbours-count levels slotCount (slotOf s x) full below,
+    )
+    (unfold marks in refl)
+
+-- x would be one extent too many for the trace t
+abbrev pub over : List ℕ → ℕ → Bool
+over t x = not (mem x t) && eqb (length (firsts t)) maxExtents
+
+module _ (s : Session) (t : List ℕ) (g : Stands s t) (x : ℕ) where
+  -- an accepted read, by the trace's own stack
+  taken-is : taken (roomed s) x ≡ stepAt (roomed s) x (depth (stack t) x)
+  unfolding taken
+  taken-is = rw (known-roomed s t (stands-known s t g) .stacked)
+
+  -- what a read answers, by the trace alone
+  pub read-is : readOf s x
+      ≡ cond (eqb (length t) maxReads) (turnedAway s 8) (cond (over t x) (turnedAway s 9) (stepAt (roomed s) x (depth (stack t) x)))
+  unfolding readOf tooMany
+  read-is =
+      rw (
+        g .is-sound,
+        ap (λ (n : ℕ). eqb n maxReads) (g .counted),
+        ap (mem x) (g .stacked) ∙ mem-stack x t,
+        known-extents s t (stands-known s t g),
+        taken-is,
+      )
+
+  -- a read too many
+  pub read-full : eqb (length t) maxReads ≡ true → readOf s x ≡ turnedAway s 8
+  read-full e = read-is ∙ rw e
+
+  -- an extent too many
+  pub read-many : eqb (length t) maxReads ≡ false → over t x ≡ true → readOf s x ≡ turnedAway s 9
+  read-many short e = read-is ∙ rw (short, e)
+
+  -- a read that is accepted
+  pub read-taken : eqb (length t) maxReads ≡ false → over t x ≡ false → readOf s x ≡ stepAt (roomed s) x (depth (stack t) x)
+  read-taken short few = read-is ∙ rw (short, few)
+
+  -- an accepted read takes t one read on
+  pub read-stands : eqb (length t) maxReads ≡ false → over t x ≡ false → Stands (readOf s x .session) (t ++ (x ∷ []))
+  read-stands short few =
+      let h = stands-known s t g in
+      let m = kept-roomed s (h .kept) in
+      rw (read-taken short few, sym taken-is)
+      (known-stands (taken (roomed s) x .session) (t ++ (x ∷ []))
+      (known-taken (roomed s) t (known-roomed s t h) x (m .room)
+      (λ new. let f : eqb (length (firsts t)) maxExtents ≡ false = simp new at few in
+      omega (arith, m .counted, known-extents s t h, kept-few s (h .kept), eqb-false (length (firsts t)) maxExtents f)))
+      (simp length-append (omega (arith, g .counted, true-sound s (g .wide) (g .is-sound) .short, eqb-false (length t) maxReads short))))
+
+-- an accepted read's answer is no refusal
+accepted : (s : Session) (x : ℕ) (r : Reuse) (n : ℕ) → stepAt s x r .answer ≡ Refused n → ⊥
+accepted s x cold n e = let z : _≡_ {A = ℕ} 0 1 = cc in omega arith
+accepted s x (at d) n e = let z : _≡_ {A = ℕ} 0 1 = cc in omega arith
+
+-- refusals of one answer have one number
+one-number : (m n : ℕ) → Refused m ≡ Refused n → m ≡ n
+one-number m n e = cc
+
+-- the answer of an equal step
+answered : {r q : Step} {a : Answer} → r ≡ q → r .answer ≡ a → q .answer ≡ a
+answered e a = ap (λ (p : Step). p .answer) (sym e) ∙ a
+
+-- what a read makes of a session that has read t: 8, or else 9, or else t one read on
+pub record Refines (s : Session) (t : List ℕ) (x : ℕ) : Type 0 where
+  pub full : length t ≡ maxReads → readOf s x ≡ turnedAway s 8
+  pub many : (length t ≡ maxReads → ⊥) → mem x t ≡ false → length (firsts t) ≡ maxExtents → readOf s x ≡ turnedAway s 9
+  pub taken : (length t ≡ maxReads → ⊥) → (mem x t ≡ false → length (firsts t) ≡ maxExtents → ⊥)
+      → (readOf s x ≡ stepAt (roomed s) x (depth (stack t) x)) × Stands (readOf s x .session) (t ++ (x ∷ []))
+  pub only-full : readOf s x .answer ≡ Refused 8 → length t ≡ maxReads
+  pub only-many : readOf s x .answer ≡ Refused 9 → (length t ≡ maxReads → ⊥) × (mem x t ≡ false) × (length (firsts t) ≡ maxExtents)
+
+-- every read of a session that has read a trace is one of these
+pub read-refines : (s : Session) (t : List ℕ) (x : ℕ) → Stands s t → Refines s t x
+read-refines s t x g = record {
+  full = λ e. read-full s t g x (eq-eqb (length t) maxReads e);
+  many = λ short new e. read-many s t g x (ne-eqb (length t) maxReads short) (simp (new, eq-eqb (length (firsts t)) maxExtents e));
+  taken = λ short few.
+      let e = ne-eqb (length t) maxReads short in
+      let f = fits few in
+      (read-taken s t g x e f, read-stands s t g x e f);
+  only-full = λ a.
+      by-test (eqb (length t) maxReads) (λ e. eqb-true (length t) maxReads e)
+      (λ e. by-test (over t x)
+      (λ f. absurd (omega (arith, one-number 9 8 (answered (read-many s t g x e f) a))))
+      (λ f. absurd (accepted (roomed s) x (depth (stack t) x) 8 (answered (read-taken s t g x e f) a))));
+  only-many = λ a.
+      by-test (eqb (length t) maxReads)
+      (λ e. absurd (omega (arith, one-number 8 9 (answered (read-full s t g x e) a))))
+      (λ e. by-test (over t x)
+      (λ f. let p = both (not (mem x t)) (eqb (length (firsts t)) maxExtents) f in
+      (eqb-false (length t) maxReads e, not-true (mem x t) (p .0), eqb-true (length (firsts t)) maxExtents (p .1)))
+      (λ f. absurd (accepted (roomed s) x (depth (stack t) x) 9 (answered (read-taken s t g x e f) a))));
+}
+  where
+    fits : (mem x t ≡ false → length (firsts t) ≡ maxExtents → ⊥) → over t x ≡ false
+    fits few =
+        by-test (mem x t) (λ m. simp m)
+        (λ m. simp (m, ne-eqb (length (firsts t)) maxExtents (few m)))

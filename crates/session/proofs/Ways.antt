@@ -1,0 +1,141 @@
+-- The ways of a read: what its parts rely on, and what each of its returns answers.
+use Prim.Native.Nat.{ℕ, suc, _-_, _<_}
+use mathlib.Core.Path.{_≡_, refl, sym, ap, _∙_}
+use mathlib.Core.Bool.{true, false}
+use native.Mathlib.Omega.{arith}
+use lib.Dec.{eqb}
+use lib.ListN.{drop, getD}
+use borrow.Author.Tests.{eq-eqb, ne-eqb, eqb-false}
+use Rattle.reuse.specs.Lists.{mem, sum}
+use Rattle.reuse.specs.Lru.{cold, at}
+use Rattle.reuse.specs.Limits.{maxReads, maxExtents, slotCount}
+use Rattle.session.specs.declared.Session.{Session}
+use Rattle.session.specs.Sessions.{marks, extents, stackOf, sound}
+use Rattle.session.specs.Reads.{slotOf, stepAt, taken, turnedAway, tooMany, readOf}
+use Rattle.session.specs.Steps.{Wide, Searched, Movable, Enterable, Gatherable}
+use Rattle.reuse.proofs.Lists.{by-test}
+use Rattle.reuse.proofs.Depth.{depth-absent}
+use Rattle.reuse.proofs.Sums.{at-le-sum, sum-drop, sum-drop-le}
+use Rattle.session.proofs.Marks.{row-tidy, slot-absent, slot-marked}
+use Rattle.session.proofs.Sound.{Kept, root, true-sound, rows-of, kept-wide, kept-trued, kept-few, kept-root}
+use Rattle.session.proofs.Taken.{Roomed, stack-mem, slot-below, slot-depth}
+
+module _ (s : Session) (k : Kept s) where
+  -- what a search relies on
+  pub searched : Searched (s .slots) (s .sums) (s .next)
+  unfolding marks
+  searched = record {
+    slots-wide = kept-wide s k .slots-wide;
+    sums-wide = kept-wide s k .sums-wide;
+    low = k .rows .low;
+    free = k .rows .free;
+    neat = row-tidy (k .rows .row);
+    apart = k .rows .apart;
+  }
+
+  -- what gathering relies on
+  pub gatherable : Gatherable s
+  gatherable = record { slots-wide = kept-wide s k .slots-wide; trued = kept-trued s k; neat = row-tidy (k .rows .row); few = kept-few s k }
+
+  module _ (x : ℕ) where
+    -- an extent with no slot is not in the stack
+    pub not-held : slotOf s x ≡ slotCount → mem x (stackOf s) ≡ false
+    not-held e = by-test (mem x (stackOf s)) (λ t. absurd (omega (arith, slot-below s k x t, k .rows .low))) (λ f. f)
+
+    -- an extent that is not in the stack has no slot
+    pub no-slot : mem x (stackOf s) ≡ false → slotOf s x ≡ slotCount
+    unfolding slotOf
+    no-slot f = slot-absent (k .rows .row) x (sym (stack-mem s k x) ∙ f) ∙ k .rows .wide
+
+    -- an extent with a slot is in the stack
+    pub is-held : (slotOf s x ≡ slotCount → ⊥) → mem x (stackOf s) ≡ true
+    is-held n = by-test (mem x (stackOf s)) (λ t. t) (λ f. absurd (n (no-slot f)))
+
+    -- its mark can move
+    movable : s .next < slotCount → s .reads < maxReads → mem x (stackOf s) ≡ true → Movable s x (slotOf s x)
+    movable room short t = record {
+      here = refl;
+      below = slot-below s k x t;
+      room = room;
+      trued = kept-trued s k;
+      few = kept-few s k;
+      behind = behind;
+      counted = omega (arith, at-le-sum (s .hist) (sum (drop (suc (slotOf s x)) (marks s))), k .rows .total);
+      short = short;
+    }
+      where
+        mark : getD (marks s) (slotOf s x) 0 ≡ 1
+        mark = unfold slotOf in slot-marked (k .rows .row) x (sym (stack-mem s k x) ∙ t)
+
+        behind : sum (drop (suc (slotOf s x)) (marks s)) < maxExtents
+        behind = omega (arith, mark, sum-drop (slotOf s x) (marks s), sum-drop-le (slotOf s x) (marks s), k .rows .few)
+
+-- a session that is not sound
+pub bad-way : (s : Session) (x : ℕ) → sound s ≡ false → turnedAway s 7 ≡ readOf s x
+unfolding readOf
+bad-way s x e = rw e
+
+module _ (s : Session) (w : Wide (s .first) (s .hist) (s .slots) (s .sums)) (ok : sound s ≡ true) where
+  -- the rows of s
+  rows : Kept s
+  rows = rows-of s w ok
+
+  module _ (x : ℕ) where
+    -- a read too many
+    pub full-way : s .reads ≡ maxReads → turnedAway s 8 ≡ readOf s x
+    unfolding readOf
+    full-way e = rw (ok, eq-eqb (s .reads) maxReads e)
+
+    -- an extent too many
+    pub many-way : (s .reads ≡ maxReads → ⊥) → slotOf s x ≡ slotCount → root s ≡ maxExtents → turnedAway s 9 ≡ readOf s x
+    unfolding readOf tooMany
+    many-way n e v =
+        rw (ok, ne-eqb (s .reads) maxReads n, not-held s rows x e, eq-eqb (extents s) maxExtents (sym (kept-root s rows) ∙ v))
+
+    -- not one extent too many
+    pub enough : (slotOf s x ≡ slotCount → root s ≡ maxExtents → ⊥) → tooMany s x ≡ false
+    unfolding tooMany
+    enough h =
+        by-test (mem x (stackOf s)) (λ t. rw t)
+        (λ f. rw (f, ne-eqb (extents s) maxExtents (λ e. h (no-slot s rows x f) (kept-root s rows ∙ e))))
+
+    -- σ is s with room, and k is the slot of x in it
+    module _ (σ : Session) (k : ℕ) (m : Roomed s σ) (at-k : k ≡ slotOf σ x) (n : s .reads ≡ maxReads → ⊥) (few : tooMany s x ≡ false) where
+      -- the reads are within the limit
+      left : σ .reads < maxReads
+      left = omega (arith, m .reads, true-sound s w ok .short, n)
+
+      -- an accepted read
+      taken-is : taken σ x ≡ readOf s x
+      unfolding readOf
+      taken-is = rw (ok, ne-eqb (s .reads) maxReads n, few, m .is)
+
+      -- the mark of a known extent can move
+      pub moves : (k ≡ slotCount → ⊥) → Movable σ x k
+      moves h = rw at-k (movable σ (m .kept) x (m .room) left (is-held σ (m .kept) x (λ e. h (at-k ∙ e))))
+
+      -- a read of a known extent
+      pub known-way : (k ≡ slotCount → ⊥) → stepAt σ x (at (suc (sum (drop (suc k) (marks σ))))) ≡ readOf s x
+      known-way h =
+          let old : taken σ x ≡ stepAt σ x (at (suc (sum (drop (suc (slotOf σ x)) (marks σ))))) =
+          unfold taken in rw (slot-depth σ (m .kept) x (is-held σ (m .kept) x (λ e. h (at-k ∙ e)))) in
+          rw at-k (sym old ∙ taken-is)
+
+      -- a new extent can have a mark
+      pub enters : k ≡ slotCount → Enterable σ
+      unfolding tooMany
+      enters e =
+          let new : mem x (stackOf s) ≡ false = ap (mem x) (sym (m .stacked)) ∙ not-held σ (m .kept) x (sym at-k ∙ e) in
+          let f : eqb (extents s) maxExtents ≡ false = simp new at few in
+          record {
+            room = m .room;
+            trued = kept-trued σ (m .kept);
+            few = omega (arith, m .counted, kept-few s rows, eqb-false (extents s) maxExtents f);
+            short = left;
+          }
+
+      -- a read of a new extent
+      pub cold-way : k ≡ slotCount → stepAt σ x cold ≡ readOf s x
+      cold-way e =
+          let new : taken σ x ≡ stepAt σ x cold = unfold taken in rw (depth-absent x (stackOf σ) (not-held σ (m .kept) x (sym at-k ∙ e))) in
+          sym new ∙ taken-is

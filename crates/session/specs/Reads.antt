@@ -1,0 +1,97 @@
+-- What a read answers, and the session after it, on every session.
+use Prim.Native.Nat.{ℕ, suc, _-_}
+use mathlib.Core.List.{List, [], _∷_, _++_}
+use mathlib.Core.Bool.{Bool, cond, not, _&&_}
+use lib.Dec.{eqb}
+use lib.ListN.{getD, set, replicate}
+use Rattle.reuse.specs.Lists.{mem}
+use Rattle.reuse.specs.Lru.{Reuse, cold, at, depth}
+use Rattle.reuse.specs.Limits.{maxReads, maxExtents, slotCount, levels}
+use Rattle.session.specs.declared.Session.{Session}
+use Rattle.session.specs.declared.Step.{Step}
+use Rattle.session.specs.declared.Answer.{Answer}
+use Rattle.session.specs.declared.Answer.the-variants.{Cold, Distance, Refused}
+use Rattle.session.specs.Sums.{sumsOf, zeros}
+use Rattle.session.specs.Sessions.{marks, extents, marked, stackOf, sound}
+
+-- the marks moved, in order, to the slots 0 to v - 1; next is v
+unfoldable pub gathered : Session → Session
+gathered s =
+    record {
+      reads = s .reads;
+      first = s .first;
+      hist = s .hist;
+      slots = marked (marks s) (s .slots) ++ replicate (slotCount - extents s) 0;
+      sums = sumsOf levels (replicate (extents s) 1 ++ replicate (slotCount - extents s) 0);
+      next = extents s;
+    }
+
+-- with room for one more: gathered where next is 512
+unfoldable pub roomed : Session → Session
+roomed s = cond (eqb (s .next) slotCount) (gathered s) s
+
+-- the marked slot that holds x; the number of slots where none does
+unfoldable pub slotFrom : List ℕ → List ℕ → ℕ → ℕ
+slotFrom [] xs x = 0
+slotFrom (m ∷ ms) [] x = 0
+slotFrom (m ∷ ms) (y ∷ ys) x = cond (eqb m 1 && eqb x y) 0 (suc (slotFrom ms ys x))
+
+-- the slot of the mark of x
+unfoldable pub slotOf : Session → ℕ → ℕ
+slotOf s x = slotFrom (marks s) (s .slots) x
+
+-- x again, at distance d: its mark moves to next
+unfoldable pub moved : Session → ℕ → ℕ → Session
+moved s x d =
+    record {
+      reads = suc (s .reads);
+      first = s .first;
+      hist = set (s .hist) (d - 1) (suc (getD (s .hist) (d - 1) 0));
+      slots = set (set (s .slots) (slotOf s x) 0) (s .next) x;
+      sums = sumsOf levels (set (set (marks s) (slotOf s x) 0) (s .next) 1);
+      next = suc (s .next);
+    }
+
+-- x for the first time: a mark at next
+unfoldable pub entered : Session → ℕ → Session
+entered s x =
+    record {
+      reads = suc (s .reads);
+      first = set (s .first) (extents s) x;
+      hist = s .hist;
+      slots = set (s .slots) (s .next) x;
+      sums = sumsOf levels (set (marks s) (s .next) 1);
+      next = suc (s .next);
+    }
+
+-- a read that is accepted, by the place of x in the LRU stack; the sums read are the zeros of its slot's number
+abbrev pub stepAt : Session → ℕ → Reuse → Step
+stepAt s x cold = record { session = entered s x; answer = Cold }
+stepAt s x (at d) = record { session = moved s x d; answer = Distance d (zeros levels (slotOf s x)) }
+
+-- a read that is accepted by a session with room
+unfoldable pub taken : Session → ℕ → Step
+taken s x = stepAt s x (depth (stackOf s) x)
+
+-- the refusal n, with the session as it was
+abbrev pub turnedAway : Session → ℕ → Step
+turnedAway s n = record { session = s; answer = Refused n }
+
+-- x would be one extent too many
+unfoldable pub tooMany : Session → ℕ → Bool
+tooMany s x = not (mem x (stackOf s)) && eqb (extents s) maxExtents
+
+-- a read of x: 7, 8, 9, or else accepted
+unfoldable pub readOf : Session → ℕ → Step
+readOf s x =
+    cond (sound s)
+    (cond (eqb (s .reads) maxReads)
+    (turnedAway s 8)
+    (cond (tooMany s x) (turnedAway s 9) (taken (roomed s) x)))
+    (turnedAway s 7)
+
+-- the sums that an answer has read: a cold read and a refusal read none
+abbrev pub sumsRead : Answer → ℕ
+sumsRead Cold = 0
+sumsRead (Distance d n) = n
+sumsRead (Refused n) = 0
