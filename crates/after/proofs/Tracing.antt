@@ -1,0 +1,106 @@
+-- The passes over a part's reads: what each turn leaves, and what the end tells.
+use mathlib.Core.Path.{_≡_, refl, sym, ap, _∙_}
+use Prim.Native.Nat.{ℕ, suc, _+_, _≤_, _<_}
+use native.Mathlib.Omega.{arith}
+use native.Mathlib.Numerals.{add-one}
+use mathlib.Core.List.{List, [], _∷_, _++_, foldl, map, append-assoc, map-append}
+use mathlib.Core.Bool.{true, false}
+use lib.Dec.{leb}
+use lib.ListN.{length, take, drop, getD, set, length-append, length-drop, length-map}
+use lib.Seq.{take-all, drop-cons, set-at, length-take-le}
+use borrow.Author.Tests.{le-leb, lt-leb}
+use Rattle.reuse.specs.declared.Place.{Place}
+use Rattle.reuse.specs.declared.Place.the-variants.{Cold, Depth, Full, BadCount}
+use Rattle.reuse.specs.Limits.{maxExtents}
+use Rattle.reuse.specs.Lru.{Reuse, cold, at, depth, touch, reuses}
+use Rattle.reuse.specs.Engine.{placeOf, leftBy}
+use Rattle.reuse.proofs.Stack.{length-reuses}
+use Rattle.reuse.proofs.Engine.{place-depth, place-range, place-cold}
+use Rattle.reuse.proofs.Runs.{Running, run-start, run-end, run-full, run-bad, held-fits, next-answers, turn-cold, turn-known}
+use Rattle.after.specs.Calls.{wordOf}
+use Rattle.after.specs.Passes.{Traceable}
+
+-- the pass that looks for room
+module _ (stack : List ℕ) (n : ℕ) (reads row : List ℕ) (held i : ℕ) (h : Running stack n reads row held i) where
+  -- no room for a new extent
+  pub no-room : i < length reads → (r : Place) → r ≡ placeOf row held (getD reads i 0) → r ≡ Full
+      → false ≡ leb (length (foldl touch (take n stack) reads)) (length stack)
+  no-room l r p e = sym (lt-leb (length (foldl touch (take n stack) reads)) (length stack) (run-full stack n reads row held i h l (sym p ∙ e)))
+
+  -- room for all
+  pub all-room : length reads ≤ i → true ≡ leb (length (foldl touch (take n stack) reads)) (length stack)
+  all-room l =
+      sym (le-leb (length (foldl touch (take n stack) reads)) (length stack)
+      (omega (arith, run-end stack n reads row held i h l, held-fits stack n reads row held i h, h .long)))
+
+-- the first i reads are taken, and their distances written
+pub record Tracing (stack : List ℕ) (n : ℕ) (reads out row written : List ℕ) (held i : ℕ) : Type 0 where
+  pub given : Traceable stack n reads out
+  pub run : Running stack n reads row held i
+  pub words : written ≡ map wordOf (reuses (take n stack) (take i reads)) ++ drop i out
+
+module _ (stack : List ℕ) (n : ℕ) (reads out : List ℕ) where
+  -- none is taken
+  pub trace-start : Traceable stack n reads out → Tracing stack n reads out stack out n 0
+  unfolding reuses
+  trace-start g = record { given = g; run = run-start stack n reads (g .stacked .held) (g .stacked .once); words = refl }
+
+  module _ (row written : List ℕ) (held i : ℕ) (h : Tracing stack n reads out row written held i) where
+    -- a word for each read taken
+    taken : length (map wordOf (reuses (take n stack) (take i reads))) ≡ i
+    taken =
+        simp length-map (length-reuses (take n stack) (take i reads) ∙ length-take-le i reads (h .run .within))
+
+    -- the buffer keeps its length
+    pub written-length : length written ≡ length out
+    written-length =
+        rw (h .words) (length-append (map wordOf (reuses (take n stack) (take i reads))) (drop i out)
+        ∙ omega (arith, taken, length-drop i out, h .run .within, h .given .wide))
+
+    -- all are taken
+    pub trace-end : length reads ≤ i → written ≡ map wordOf (reuses (take n stack) reads) ++ drop (length reads) out
+    trace-end l =
+        let e : i ≡ length reads = omega (arith, h .run .within) in
+        h .words ∙ rw (take-all i reads l) (ap (λ (k : ℕ). map wordOf (reuses (take n stack) reads) ++ drop k out) e)
+
+    module _ (l : i < length reads) where
+      -- the next word put
+      next-word : (x : Reuse) → depth (take held row) (getD reads i 0) ≡ x
+          → set written i (wordOf x) ≡ map wordOf (reuses (take n stack) (take (i + 1) reads)) ++ drop (i + 1) out
+      next-word x e =
+          let m : List ℕ = map wordOf (reuses (take n stack) (take i reads)) in
+          let a : map wordOf (reuses (take n stack) (take (i + 1) reads)) ≡ m ++ (wordOf x ∷ []) =
+          ap (map wordOf) (rw e at (next-answers stack n reads row held i (h .run) l)) ∙ map-append wordOf (reuses (take n stack) (take i reads)) (x ∷ []) in
+          let d : drop i out ≡ getD out i 0 ∷ drop (suc i) out = drop-cons out i 0 (omega (arith, h .given .wide)) in
+          rw (h .words, d, a, add-one i) (set-at m (getD out i 0) (drop (suc i) out) (wordOf x) i taken ∙ simp append-assoc)
+
+      -- the engine finds room
+      pub not-full : placeOf row held (getD reads i 0) ≡ Full → ⊥
+      not-full p = omega (arith, run-full stack n reads row held i (h .run) l p, h .given .room)
+
+      -- and a fit count
+      pub not-bad : placeOf row held (getD reads i 0) ≡ BadCount → ⊥
+      not-bad = run-bad stack n reads row held i (h .run) l
+
+      -- a distance fits a word
+      pub depth-small : (d : ℕ) → placeOf row held (getD reads i 0) ≡ Depth d → d ≤ maxExtents
+      depth-small d p =
+          omega (arith, place-range row held (getD reads i 0) (held-fits stack n reads row held i (h .run)) d p, held-fits stack n reads row held i (h .run), h .run .long, h .given .small)
+
+      -- the turn as the code makes it, by the engine's answer r and the words that it left
+      module _ (r : Place) (left others : List ℕ) (held' : ℕ) (p : r ≡ placeOf row held (getD reads i 0)) (q : left ≡ leftBy r held (getD reads i 0) row) where
+        -- a cold read
+        pub trace-cold : r ≡ Cold → others ≡ set written i 0 → held' ≡ held + 1 → Tracing stack n reads out left others held' (i + 1)
+        trace-cold e f g = rw (f, g) (record {
+          given = h .given;
+          run = turn-cold stack n reads row held i (h .run) l r left p q e;
+          words = next-word cold (place-cold row held (getD reads i 0) (held-fits stack n reads row held i (h .run)) (sym p ∙ e));
+        })
+
+        -- a read at a distance
+        pub trace-known : (d : ℕ) → r ≡ Depth d → others ≡ set written i d → held' ≡ held → Tracing stack n reads out left others held' (i + 1)
+        trace-known d e f g = rw (f, g) (record {
+          given = h .given;
+          run = turn-known stack n reads row held i (h .run) l r left p q d e;
+          words = next-word (at d) (place-depth row held (getD reads i 0) (held-fits stack n reads row held i (h .run)) d (sym p ∙ e));
+        })

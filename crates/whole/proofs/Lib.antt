@@ -1,0 +1,6 @@
+pub mod Calls
+pub mod Refusals
+pub mod Groupings
+pub mod Prefixes
+pub mod Whole
+pub mod Table

@@ -1,0 +1,131 @@
+-- The distances of each part after its prefix, end to end.
+use Prim.Native.Nat.{ℕ, _+_, _≤_}
+use mathlib.Core.Path.{_≡_, refl, sym, ap, _∙_}
+use mathlib.Core.List.{List, [], _∷_, _++_, map, map-append}
+use mathlib.Core.Bool.{Bool, true, false, cond, _&&_}
+use native.Mathlib.Omega.{arith}
+use lib.Dec.{leb}
+use lib.ListN.{length, length-append, length-map}
+use borrow.Author.Tests.{le-leb}
+use Rattle.reuse.specs.Limits.{maxReads, maxExtents}
+use Rattle.reuse.specs.Lists.{firsts}
+use Rattle.reuse.specs.Lru.{reuses}
+use Rattle.reuse.specs.Summary.{summaryOf, readsOf, firstOf, recentOf}
+use Rattle.reuse.proofs.Lists.{firsts-append}
+use Rattle.reuse.proofs.Distinct.{distinct-firsts, firsts-distinct}
+use Rattle.reuse.proofs.Stack.{length-reuses}
+use Rattle.reuse.proofs.Words.{reads-summary, first-summary}
+use Rattle.reuse.proofs.Join.{part-law}
+use Rattle.reuse.proofs.Monoid.{empty-summary}
+use Rattle.reuse.proofs.Formed.{summary-well-formed}
+use Rattle.summary.specs.Calls.{wrote}
+use Rattle.session.specs.Sessions.{fresh}
+use Rattle.after.specs.Calls.{wordOf, afterCall}
+use Rattle.whole.specs.Runs.{accepted, handed, stopped, outcome, Grouping, parts, logOf, grouped, roomy}
+use Rattle.whole.specs.Cuttings.{Cutting, only, andThen, cutParts, Follows, after, endToEnd, cutDistances, cutRoomy}
+use Rattle.whole.specs.Claim.{Within}
+use Rattle.whole.proofs.Groupings.{within-front, log-append, log-one, outcome-wrote, grouping-outcome}
+
+-- the extents of a part after F of its prefix are those of the two end to end
+pub firsts-after : (a b : List ℕ) → firsts (firsts a ++ b) ≡ firsts (a ++ b)
+firsts-after a b =
+    firsts-append (firsts a) b
+    ∙ rw (firsts-distinct (firsts a) (distinct-firsts a)) (sym (firsts-append a b))
+
+-- a part after a log's summary, both within the limits, is written or refused with 6
+pub after-trace : (a b buffer : List ℕ) → Within (a ++ b)
+    → afterCall (summaryOf a) b buffer ≡ wrote (map wordOf (reuses (recentOf (summaryOf a)) b)) buffer
+unfolding afterCall
+after-trace a b buffer w =
+    rw (
+      summary-well-formed a (front .reads) (front .extents),
+      le-leb (readsOf (summaryOf a) + length b) maxReads reads,
+      le-leb (length (firsts (firstOf (summaryOf a) ++ b))) maxExtents extents,
+    )
+  where
+    -- the prefix is within the limits
+    front : Within a
+    front = within-front a b w
+
+    -- no 8
+    reads : readsOf (summaryOf a) + length b ≤ maxReads
+    reads = omega (arith, reads-summary a, length-append a b)
+
+    -- no 9
+    extents : length (firsts (firstOf (summaryOf a) ++ b)) ≤ maxExtents
+    extents = rw (first-summary a, firsts-after a b) (w .extents)
+
+-- what it hands over
+pub after-outcome : (a b buffer : List ℕ) → Within (a ++ b)
+    → after (handed (summaryOf a)) b buffer
+    ≡ cond (leb (length b) (length buffer)) (handed (map wordOf (reuses (recentOf (summaryOf a)) b))) (stopped 6)
+after-outcome a b buffer w =
+    let answer : List ℕ = map wordOf (reuses (recentOf (summaryOf a)) b) in
+    let long : length answer ≡ length b = simp (length-map, length-reuses) in
+    ap outcome (after-trace a b buffer w) ∙ outcome-wrote answer buffer
+    ∙ ap (λ (n : ℕ). cond (leb n (length buffer)) (handed answer) (stopped 6)) long
+
+-- the words of a trace and then a part, by R of the trace
+pub words-law : (a b : List ℕ) → map wordOf (reuses [] a) ++ map wordOf (reuses (recentOf (summaryOf a)) b) ≡ map wordOf (reuses [] (a ++ b))
+words-law a b = sym (ap (map wordOf) (part-law a b) ∙ map-append wordOf (reuses [] a) (reuses (recentOf (summaryOf a)) b))
+
+-- the first part, after 0 0
+pub first-outcome : (t buffer : List ℕ) → Within t
+    → after (handed (0 ∷ 0 ∷ [])) t buffer ≡ cond (leb (length t) (length buffer)) (handed (map wordOf (reuses [] t))) (stopped 6)
+unfolding reuses
+first-outcome t buffer w = rw (← empty-summary) (after-outcome [] t buffer w ∙ rw (words-law [] t))
+
+-- a part after a grouping of all the parts before it
+pub later-outcome : (g : Grouping) (b buffer : List ℕ) → Within (logOf (parts g) ++ b)
+    → after (grouped g) b buffer
+    ≡ cond (roomy g && leb (length b) (length buffer)) (handed (map wordOf (reuses (recentOf (summaryOf (logOf (parts g)))) b))) (stopped 6)
+later-outcome g b buffer w = rw (grouping-outcome g (within-front (logOf (parts g)) b w)) (by (roomy g))
+  where
+    -- by the room of the grouping
+    by : (c : Bool)
+        → after (cond c (handed (summaryOf (logOf (parts g)))) (stopped 6)) b buffer
+        ≡ cond (c && leb (length b) (length buffer)) (handed (map wordOf (reuses (recentOf (summaryOf (logOf (parts g)))) b))) (stopped 6)
+    by true = after-outcome (logOf (parts g)) b buffer w
+    by false = refl
+
+-- the distances of a cutting, end to end, are its trace's; a call of it is refused with 6 alone
+pub cutting-outcome : (c : Cutting) → Follows c → Within (logOf (cutParts c))
+    → cutDistances c ≡ cond (cutRoomy c) (handed (map wordOf (reuses [] (logOf (cutParts c))))) (stopped 6)
+unfolding cutDistances cutRoomy cutParts Follows
+cutting-outcome (only calls buffer) p w = rw (log-one calls) (first-outcome (accepted fresh calls) buffer (rw (log-one calls) at w))
+cutting-outcome (andThen c g calls buffer) p w = by (cutRoomy c) (roomy g) (leb (length b) (length buffer)) (cutting-outcome c (p .0) front) later
+  where
+    -- the log of the earlier parts
+    a : List ℕ
+    a = logOf (cutParts c)
+
+    -- the part
+    b : List ℕ
+    b = accepted fresh calls
+
+    -- the two end to end
+    ends : logOf (cutParts c ++ (calls ∷ [])) ≡ a ++ b
+    ends = log-append (cutParts c) (calls ∷ []) ∙ ap (λ (l : List ℕ). a ++ l) (log-one calls)
+
+    -- they are within the limits
+    both : Within (a ++ b)
+    both = rw ends at w
+
+    -- so are the earlier parts
+    front : Within a
+    front = within-front a b both
+
+    -- the part after its prefix
+    later : after (grouped g) b buffer ≡ cond (roomy g && leb (length b) (length buffer)) (handed (map wordOf (reuses (recentOf (summaryOf a)) b))) (stopped 6)
+    later = rw (p .1) at (later-outcome g b buffer (rw (p .1) both))
+
+    -- by the room of each
+    by : (d e f : Bool)
+        → cutDistances c ≡ cond d (handed (map wordOf (reuses [] a))) (stopped 6)
+        → after (grouped g) b buffer ≡ cond (e && f) (handed (map wordOf (reuses (recentOf (summaryOf a)) b))) (stopped 6)
+        → endToEnd (cutDistances c) (after (grouped g) b buffer)
+        ≡ cond (d && (e && f)) (handed (map wordOf (reuses [] (logOf (cutParts c ++ (calls ∷ [])))))) (stopped 6)
+    by true true true h k = rw (h, k, ends) (ap handed (words-law a b))
+    by true true false h k = rw (h, k)
+    by true false f h k = rw (h, k)
+    by false e f h k = rw h

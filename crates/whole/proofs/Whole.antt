@@ -1,0 +1,87 @@
+-- The claim about whole runs, proved.
+use Prim.Native.Nat.{ℕ}
+use mathlib.Core.Path.{_≡_, refl, sym, ap, _∙_}
+use mathlib.Core.List.{List, [], _∷_, map, map-map}
+use mathlib.Core.Bool.{Bool, false, cond}
+use Rattle.reuse.specs.Lru.{reuses, within}
+use Rattle.reuse.specs.Cache.{cacheHits}
+use Rattle.reuse.specs.Summary.{summaryOf}
+use Rattle.reuse.proofs.Cache.{cache-law}
+use Rattle.session.specs.declared.Answer.{Answer}
+use Rattle.session.specs.declared.Answer.the-variants.{Cold, Distance, Refused}
+use Rattle.session.specs.Sessions.{fresh}
+use Rattle.session.proofs.Stands.{fresh-stands}
+use Rattle.after.specs.Calls.{wordOf}
+use Rattle.whole.specs.Runs.{answersOf, sessionAfter, handed, stopped, Grouping, parts, logOf, grouped, roomy}
+use Rattle.whole.specs.Cuttings.{Cutting, cutParts, Follows, cutDistances, cutRoomy}
+use Rattle.whole.specs.Claim.{Seen, seen, declined, seenOf, written, heldBy, Within, Claims, Claim}
+use Rattle.whole.proofs.Calls.{all-accepted, trace-stands, uncut}
+use Rattle.whole.proofs.Refusals.{calls-owed, no-trace}
+use Rattle.whole.proofs.Groupings.{session-outcome, grouping-outcome}
+use Rattle.whole.proofs.Prefixes.{cutting-outcome}
+
+-- a cache of this size holds the extent, by what was seen
+abbrev held : ℕ → Seen → Bool
+held size (seen r) = within size r
+held size (declined n) = false
+
+-- what was seen of an answer tells whether the cache holds the extent
+held-seen : (size : ℕ) (a : Answer) → held size (seenOf a) ≡ heldBy size a
+held-seen size Cold = refl
+held-seen size (Distance d n) = refl
+held-seen size (Refused n) = refl
+
+-- so of a list of answers
+held-answers : (size : ℕ) (l : List Answer) → map (held size) (map seenOf l) ≡ map (heldBy size) l
+held-answers size [] = refl
+held-answers size (a ∷ l) = rw (held-answers size l, held-seen size a)
+
+-- a cache of any size holds the extent exactly where the answer is a distance of at most the size
+pub caches : (t : List ℕ) → Within t → (size : ℕ) → cacheHits size t ≡ map (heldBy size) (answersOf fresh t)
+caches t w size =
+    cache-law size t
+    ∙ sym (map-map (held size) seen (reuses [] t))
+    ∙ ap (map (held size)) (sym (uncut t w))
+    ∙ held-answers size (answersOf fresh t)
+
+-- every grouping of every cutting of t
+pub groupings : (t : List ℕ) → Within t → (g : Grouping) → logOf (parts g) ≡ t → grouped g ≡ cond (roomy g) (handed (summaryOf t)) (stopped 6)
+groupings t w g e = rw e at (grouping-outcome g (rw e w))
+
+-- what was seen, as the buffer writes it
+abbrev saw : Seen → ℕ
+saw (seen r) = wordOf r
+saw (declined n) = 0
+
+-- so of a list of answers
+saw-seen : (l : List Answer) → map saw (map seenOf l) ≡ map written l
+saw-seen [] = refl
+saw-seen (Cold ∷ l) = ap {B = List ℕ} (λ r. 0 ∷ r) (saw-seen l)
+saw-seen (Distance d n ∷ l) = ap {B = List ℕ} (λ r. d ∷ r) (saw-seen l)
+saw-seen (Refused n ∷ l) = ap {B = List ℕ} (λ r. 0 ∷ r) (saw-seen l)
+
+-- the uncut reading's answers as the buffer writes them
+pub uncut-words : (t : List ℕ) → Within t → map written (answersOf fresh t) ≡ map wordOf (reuses [] t)
+uncut-words t w = sym (saw-seen (answersOf fresh t)) ∙ ap (map saw) (uncut t w) ∙ map-map saw seen (reuses [] t)
+
+-- every cutting of t with its distances
+pub distances : (t : List ℕ) → Within t → (c : Cutting) → Follows c → logOf (cutParts c) ≡ t
+    → cutDistances c ≡ cond (cutRoomy c) (handed (map written (answersOf fresh t))) (stopped 6)
+distances t w c p e =
+    (rw e at (cutting-outcome c p (rw e w)))
+    ∙ ap (λ (l : List ℕ). cond (cutRoomy c) (handed l) (stopped 6)) (sym (uncut-words t w))
+
+-- what holds of every run over a trace within the limits
+pub runs : (t : List ℕ) → Within t → Claims t
+runs t w = record {
+  accepts = all-accepted t fresh [] fresh-stands w;
+  uncut = uncut t w;
+  uncut-summary = λ buffer. session-outcome (sessionAfter fresh t) t buffer (trace-stands t w);
+  groupings = groupings t w;
+  distances = distances t w;
+  caches = caches t w;
+}
+
+-- demand 3
+pub claim : Claim
+claim = record { calls = calls-owed; no-trace = no-trace; runs = runs }

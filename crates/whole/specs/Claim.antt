@@ -1,0 +1,85 @@
+-- The claim about whole runs (01, 'Demand 3 in full').
+use Prim.Native.Nat.{ℕ, _≤_}
+use mathlib.Core.Path.{_≡_}
+use mathlib.Core.List.{List, [], _∷_, _++_, map}
+use mathlib.Core.Bool.{Bool, false, cond}
+use lib.Dec.{leb, ltb}
+use lib.ListN.{length}
+use Rattle.reuse.specs.Limits.{maxReads, maxExtents}
+use Rattle.reuse.specs.Lists.{firsts}
+use Rattle.reuse.specs.Lru.{Reuse, cold, at, reuses, distance}
+use Rattle.reuse.specs.Cache.{cacheHits}
+use Rattle.reuse.specs.Summary.{summaryOf}
+use Rattle.after.specs.Calls.{wordOf}
+use Rattle.session.specs.declared.Answer.{Answer}
+use Rattle.session.specs.declared.Answer.the-variants.{Cold, Distance, Refused}
+use Rattle.session.specs.Sessions.{fresh}
+use Rattle.session.specs.Summaries.{summaryCall}
+use Rattle.whole.specs.Runs.{sessionAfter, answersOf, accepted, handed, stopped, outcome, Grouping, parts, logOf, grouped, roomFor, roomy}
+use Rattle.whole.specs.Cuttings.{Cutting, cutParts, Follows, cutDistances, cutRoomy}
+
+-- a read's answer without its count of sums: a distance or cold, or its refusal
+pub data Seen : Type 0 where
+  seen : Reuse → Seen
+  declined : ℕ → Seen
+
+-- of an answer
+abbrev pub seenOf : Answer → Seen
+seenOf Cold = seen cold
+seenOf (Distance d n) = seen (at d)
+seenOf (Refused n) = declined n
+
+-- what each of a list of read calls must answer, t being the reads accepted before: 8 where more reads than the
+-- limit would result, else 9 where more extents would, else the distance counted on the log
+unfoldable pub owed : List ℕ → List ℕ → List Seen
+owed t [] = []
+owed t (x ∷ xs) =
+    cond (ltb maxReads (length (t ++ (x ∷ []))))
+    (declined 8 ∷ owed t xs)
+    (cond (ltb maxExtents (length (firsts (t ++ (x ∷ [])))))
+    (declined 9 ∷ owed t xs)
+    (seen (distance t x) ∷ owed (t ++ (x ∷ [])) xs))
+
+-- an answer as the distance buffer writes it; a refusal, which none is here, as 0
+abbrev pub written : Answer → ℕ
+written Cold = wordOf cold
+written (Distance d n) = wordOf (at d)
+written (Refused n) = 0
+
+-- an answer that is a distance of at most c
+abbrev pub heldBy : ℕ → Answer → Bool
+heldBy c Cold = false
+heldBy c (Distance d n) = leb d c
+heldBy c (Refused n) = false
+
+-- a log within the limits
+pub record Within (t : List ℕ) : Type 0 where
+  pub reads : length t ≤ maxReads
+  pub extents : length (firsts t) ≤ maxExtents
+
+-- what holds of every run over the log t
+pub record Claims (t : List ℕ) : Type 0 where
+  -- the uncut reading refuses no read
+  pub accepts : accepted fresh t ≡ t
+  -- and answers the LRU stack's distances
+  pub uncut : map seenOf (answersOf fresh t) ≡ map seen (reuses [] t)
+  -- its summary is the log's
+  pub uncut-summary : (buffer : List ℕ) →
+      outcome (summaryCall (sessionAfter fresh t) buffer) ≡ cond (roomFor t buffer) (handed (summaryOf t)) (stopped 6)
+  -- every grouping of every cutting hands over the same words; a call is refused with 6 alone, where its buffer is too short
+  pub groupings : (g : Grouping) → logOf (parts g) ≡ t →
+      grouped g ≡ cond (roomy g) (handed (summaryOf t)) (stopped 6)
+  -- the parts' distances, end to end, are what the uncut reading's reads answer
+  pub distances : (c : Cutting) → Follows c → logOf (cutParts c) ≡ t →
+      cutDistances c ≡ cond (cutRoomy c) (handed (map written (answersOf fresh t))) (stopped 6)
+  -- in the cache of any size a read is a hit exactly where the uncut reading's answer is a distance of at most the size
+  pub caches : (c : ℕ) → cacheHits c t ≡ map (heldBy c) (answersOf fresh t)
+
+-- of every list of read calls and every log within the limits
+pub record Claim : Type 0 where
+  -- a read is refused exactly under the condition of 8, or else of 9, counted with the reads accepted before it
+  pub calls : (reads : List ℕ) → map seenOf (answersOf fresh reads) ≡ owed [] reads
+  -- a refused read leaves no trace
+  pub no-trace : (reads : List ℕ) → sessionAfter fresh reads ≡ sessionAfter fresh (accepted fresh reads)
+  -- and the rest
+  pub runs : (t : List ℕ) → Within t → Claims t

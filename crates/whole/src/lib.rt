@@ -1,0 +1,1 @@
+// The claim about whole runs: definitions and their proof, no code.
