@@ -1,0 +1,24 @@
+-- `watch::share` meets its contract.
+use mathlib.Core.Path.{sym, _∙_}
+use borrow.Author.Tests.{not-true, not-false}
+use Rattle.watch.specs.Watching.{shareCall}
+use borrow.Author.Needs.{needs}
+use Rattle.watch.proofs.share.Statement.{statement}
+use Rattle.watch.proofs.share.Tie as tie
+
+sound-requires : tie.Need-sound-requires
+sound-requires c κs = search needs
+
+returns : tie.Need-returns
+unfolding shareCall
+returns c = sym (simp (sym (c .before .sound .ensures) ∙ not-true _ (c .if1 .taken)))
+
+share-of-requires : tie.Need-share-of-requires
+share-of-requires c κs = search needs
+
+returns-2 : tie.Need-returns-2
+unfolding shareCall
+returns-2 c = sym (simp (sym (c .before .before .sound .ensures) ∙ not-false _ (c .before .if1 .left)) (cc (c .share-of .ensures)))
+
+pub share-spec : {M : Type 1} → statement M
+share-spec = tie.close (tie.spec sound-requires returns share-of-requires returns-2)
