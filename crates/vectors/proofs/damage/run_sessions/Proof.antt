@@ -1,0 +1,50 @@
+-- `vectors::damage::run_sessions` is safe and ends.
+use Prim.Native.Nat.{_-_}
+use borrow.Author.Needs.{needs}
+use Rattle.vectors.proofs.damage.run_sessions.Statement.{statement}
+use Rattle.vectors.proofs.damage.run_sessions.Tie as tie
+
+abbrev Inv-loop : tie.InvT-loop
+Inv-loop logs sound c₀ i₀ c i = Unit {0}
+
+abbrev μ-loop : tie.MeasureT-loop
+μ-loop logs sound c₀ i₀ c i = logs - i
+
+none-requires : tie.Need-none-requires Inv-loop μ-loop
+none-requires c κs = search needs
+
+loop-holds : tie.Need-loop-holds Inv-loop μ-loop
+loop-holds c = search needs
+
+seed-requires : tie.Need-seed-requires Inv-loop μ-loop
+seed-requires c κs = search needs
+
+one-session-requires : tie.Need-one-session-requires Inv-loop μ-loop
+one-session-requires c κs = search needs
+
+add-i : tie.Need-add-i Inv-loop μ-loop
+add-i c = search needs
+
+loop-less : tie.Need-loop-less Inv-loop μ-loop
+loop-less c = search needs
+
+loop-again : tie.Need-loop-again Inv-loop μ-loop
+loop-again c = search needs
+
+returns : tie.Need-returns Inv-loop μ-loop
+returns c = search needs
+
+pub run-sessions-spec : {M : Type 1} → statement M
+run-sessions-spec =
+    tie.close
+    (tie.spec
+    Inv-loop
+    μ-loop
+    none-requires
+    loop-holds
+    seed-requires
+    one-session-requires
+    add-i
+    loop-less
+    loop-again
+    returns)

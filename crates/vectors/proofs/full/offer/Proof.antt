@@ -1,0 +1,56 @@
+-- `vectors::full::offer` is safe and ends.
+use Prim.Native.Nat.{_-_}
+use borrow.Author.Needs.{needs}
+use lib.ListN.{length}
+use mathlib.Core.Path.{_≡_}
+use Rattle.vectors.proofs.full.offer.Statement.{statement}
+use Rattle.vectors.proofs.full.offer.Tie as tie
+
+abbrev Inv-loop : tie.InvT-loop
+Inv-loop calls₀ seed i₀ i-end calls i = length calls ≡ length calls₀
+
+abbrev μ-loop : tie.MeasureT-loop
+μ-loop calls₀ seed i₀ i-end calls i = i-end - i
+
+loop-holds : tie.Need-loop-holds Inv-loop μ-loop
+loop-holds c = search needs
+
+below-requires : tie.Need-below-requires Inv-loop μ-loop
+below-requires c κs = search needs
+
+name-requires : tie.Need-name-requires Inv-loop μ-loop
+name-requires c κs = search needs
+
+put-requires : tie.Need-put-requires Inv-loop μ-loop
+put-requires c κs = search needs
+
+add-i : tie.Need-add-i Inv-loop μ-loop
+add-i c = search needs
+
+loop-less : tie.Need-loop-less Inv-loop μ-loop
+loop-less c = search needs
+
+loop-again : tie.Need-loop-again Inv-loop μ-loop
+loop-again c = search needs
+
+same-length : tie.Need-same-length Inv-loop μ-loop
+same-length c = search needs
+
+returns : tie.Need-returns Inv-loop μ-loop
+returns c = search needs
+
+pub offer-spec : {M : Type 1} → statement M
+offer-spec =
+    tie.close
+    (tie.spec
+    Inv-loop
+    μ-loop
+    loop-holds
+    below-requires
+    name-requires
+    put-requires
+    add-i
+    loop-less
+    loop-again
+    same-length
+    returns)

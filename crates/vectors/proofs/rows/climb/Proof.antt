@@ -1,0 +1,34 @@
+-- `vectors::rows::climb` is safe and ends.
+use Prim.Native.Nat.{_-_}
+use borrow.Author.Needs.{needs}
+use Rattle.vectors.proofs.rows.climb.Statement.{statement}
+use Rattle.vectors.proofs.rows.climb.Tie as tie
+
+abbrev Inv-loop : tie.InvT-loop
+Inv-loop n s₀ i₀ s i = Unit {0}
+
+abbrev μ-loop : tie.MeasureT-loop
+μ-loop n s₀ i₀ s i = n - i
+
+loop-holds : tie.Need-loop-holds Inv-loop μ-loop
+loop-holds c = search needs
+
+read-requires : tie.Need-read-requires Inv-loop μ-loop
+read-requires c κs = search needs
+
+add-i : tie.Need-add-i Inv-loop μ-loop
+add-i c = search needs
+
+loop-less : tie.Need-loop-less Inv-loop μ-loop
+loop-less c = search needs
+
+loop-again : tie.Need-loop-again Inv-loop μ-loop
+loop-again c = search needs
+
+returns : tie.Need-returns Inv-loop μ-loop
+returns c = search needs
+
+pub climb-spec : {M : Type 1} → statement M
+climb-spec =
+    tie.close
+    (tie.spec Inv-loop μ-loop loop-holds read-requires add-i loop-less loop-again returns)

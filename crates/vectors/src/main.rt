@@ -1,0 +1,76 @@
+// Compares what the public calls answer with a direct cache simulation and with each other, on logs made by a fixed rule.
+use count::Count;
+use libc::STDOUT_FILENO;
+
+mod answers;
+mod cache;
+mod count;
+mod cutting;
+mod damage;
+mod direct;
+mod full;
+mod hits;
+mod limits;
+mod pool;
+mod rng;
+mod rows;
+mod short;
+mod state;
+mod watches;
+mod words;
+
+// One line: what was compared, how often, and how many differ.
+fn line(what: &[u8], count: Count) {
+    io::write_all(STDOUT_FILENO, what);
+    io::write_all(STDOUT_FILENO, b": compared ");
+    io::print_decimal(STDOUT_FILENO, count.compared);
+    io::write_all(STDOUT_FILENO, b", differ ");
+    io::print_decimal(STDOUT_FILENO, count.differ);
+    io::write_all(STDOUT_FILENO, b"\n");
+}
+
+// Hits, misses and hit shares against the simulated caches.
+fn against_caches() {
+    line(b"hits", hits::run(48));
+    line(b"misses", hits::run_totals(120, false));
+    line(b"hit shares", hits::run_totals(120, true));
+    line(b"watches", watches::run(60));
+}
+
+// Cuttings, and parts after prefixes.
+fn of_parts() {
+    line(b"summaries by definition", direct::run(60));
+    line(b"groupings of parts", cutting::run_groupings(200));
+    line(b"parts after prefixes", cutting::run_after(200));
+    line(b"parts with refused reads", full::run(12));
+}
+
+// Damaged summaries and sessions, and short buffers.
+fn of_refusals() {
+    line(
+        b"damaged summaries, refused",
+        damage::run_summaries(2000, false),
+    );
+    line(
+        b"damaged summaries, still well formed",
+        damage::run_summaries(2000, true),
+    );
+    line(
+        b"damaged sessions, refused",
+        damage::run_sessions(2000, false),
+    );
+    line(
+        b"damaged sessions, still sound",
+        damage::run_sessions(2000, true),
+    );
+    line(b"short buffers", short::run(2000));
+    line(b"limits of joins and parts", limits::run(300));
+}
+
+// All rows, then all comparisons.
+fn main() {
+    rows::all();
+    against_caches();
+    of_parts();
+    of_refusals();
+}
