@@ -23,7 +23,7 @@ mod state;
 mod walk;
 
 // The place of the sum over all marks.
-const ROOT: usize = 1022;
+const ROOT: usize = reuse::SUMS - 1;
 
 // L, F and H, the slots with the sums over their marks, and the next slot.
 pub struct Session {

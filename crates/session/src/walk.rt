@@ -12,8 +12,9 @@ use crate::ROOT;
 use reuse::SLOTS;
 
 // The sums above the leaves.
-const INNER: usize = 511;
+const INNER: usize = SLOTS - 1;
 
+// What a walk up read: the total of the sums, and how many they are.
 pub struct Walked {
     pub total: u32,
     pub count: u32,
