@@ -5,7 +5,7 @@ use native.Mathlib.Omega.{arith}
 use mathlib.Core.List.{List, [], _∷_, _++_, reverse, append-nil, reverse-cons}
 use mathlib.Core.Bool.{Bool, true, false, cond, not, _&&_, _||_, or-true, or-false, or-assoc, or-comm, and-false}
 use lib.Dec.{eqb}
-use lib.ListN.{length, take, getD}
+use lib.ListN.{length, take, getD, length-append}
 use borrow.Author.Tests.{eqb-true, eqb-false, eq-eqb, ne-eqb}
 use Rattle.reuse.specs.Lists.{mem, remove, cleanup, firsts, inside, outside}
 
@@ -197,3 +197,7 @@ firsts-known x a h = firsts-append a (x ∷ []) ∙ unfold outside firsts remove
 -- a read of a new extent comes last among the first reads
 pub firsts-new : (x : ℕ) (a : List ℕ) → mem x a ≡ false → firsts (a ++ (x ∷ [])) ≡ firsts a ++ (x ∷ [])
 firsts-new x a h = firsts-append a (x ∷ []) ∙ unfold outside firsts remove in simp (mem-firsts, h)
+
+-- a longer trace has no fewer extents
+pub firsts-longer : (u t : List ℕ) → length (firsts t) ≤ length (firsts (t ++ u))
+firsts-longer u t = rw (firsts-append t u, length-append) (omega arith)

@@ -10,7 +10,7 @@ use borrow.Author.Tests.{ne-eqb}
 use Rattle.reuse.specs.Limits.{maxReads, maxExtents}
 use Rattle.reuse.specs.Lists.{mem, firsts}
 use Rattle.reuse.specs.Lru.{Reuse, cold, at, depth, touch, stack, reuses, distance}
-use Rattle.reuse.proofs.Lists.{firsts-append, firsts-new}
+use Rattle.reuse.proofs.Lists.{firsts-new, firsts-longer}
 use Rattle.reuse.proofs.Stack.{stack-snoc}
 use Rattle.reuse.proofs.Depth.{distance-law}
 use Rattle.session.specs.declared.Session.{Session}
@@ -84,10 +84,6 @@ calls-stand (x ∷ xs) s t g = by (eqb (length t) maxReads) refl (over t x) refl
         kept =
             ap (λ (r : Step). keep (r .answer) x (accepted (readOf s x .session) xs)) (read-taken s t g x e f)
             ∙ keep-step (roomed s) x (depth (stack t) x) (accepted (readOf s x .session) xs)
-
--- a longer trace has no fewer extents
-pub firsts-longer : (u t : List ℕ) → length (firsts t) ≤ length (firsts (t ++ u))
-firsts-longer u t = rw (firsts-append t u, length-append) (omega arith)
 
 -- within the limits no read is one too many
 within-reads : (t u : List ℕ) (x : ℕ) → Within (t ++ (x ∷ u)) → eqb (length t) maxReads ≡ false

@@ -10,7 +10,7 @@ use lib.Seq.{take-append-seam}
 use borrow.Author.Tests.{le-leb}
 use Rattle.reuse.specs.Limits.{maxReads, maxExtents}
 use Rattle.reuse.specs.Summary.{summaryOf, readsOf, joinedFirst}
-use Rattle.reuse.proofs.Lists.{by-test}
+use Rattle.reuse.proofs.Lists.{by-test, firsts-longer}
 use Rattle.reuse.proofs.Words.{length-summary, reads-summary}
 use Rattle.reuse.proofs.Join.{join-law, joined-first}
 use Rattle.reuse.proofs.Formed.{firsts-grow, summary-well-formed}
@@ -22,7 +22,7 @@ use Rattle.session.proofs.Stands.{Stands, fresh-stands}
 use Rattle.session.proofs.Summaries.{summary-trace}
 use Rattle.whole.specs.Runs.{sessionAfter, accepted, handed, stopped, outcome, Grouping, part, joined, parts, logOf, joinedWith, grouped, roomFor, roomy}
 use Rattle.whole.specs.Claim.{Within}
-use Rattle.whole.proofs.Calls.{firsts-longer, calls-stand}
+use Rattle.whole.proofs.Calls.{calls-stand}
 
 -- the front of a trace within the limits is within them
 pub within-front : (a b : List ℕ) → Within (a ++ b) → Within a

@@ -1,0 +1,5 @@
+mod Positions
+mod Places
+mod Ways
+mod Whole
+mod Examples

@@ -1,0 +1,32 @@
+-- `plan::lines::line_at` meets its contract.
+use Prim.Native.Nat.{_+_}
+use native.Mathlib.Omega.{arith}
+use lib.ListN.{length}
+use Rattle.plan.proofs.Places.{line-from, line-bad, line-form}
+use borrow.Author.Needs.{needs}
+use Rattle.plan.proofs.lines.line_at.Statement.{statement}
+use Rattle.plan.proofs.lines.line_at.Tie as tie
+
+run-of-requires : tie.Need-run-of-requires
+run-of-requires c κs = search needs
+
+returns : tie.Need-returns
+returns c =
+    let a = c .before .before .before .args in
+    (line-bad (a .s .now) (a .at) (a .under) (c .before .run-of .result) (c .before .run-of .ensures .0) (c .if1 .taken), tt)
+
+add-form-at : tie.Need-add-form-at
+add-form-at c = search needs
+
+form-at-requires : tie.Need-form-at-requires
+form-at-requires c κs = search needs
+
+returns-2 : tie.Need-returns-2
+returns-2 c =
+    let a = c .before .before .before .before .args in (
+      line-form (a .s .now) (a .at) (a .under) (c .before .before .run-of .result) (c .before .before .run-of .ensures .0) (c .before .if1 .left) _ (c .form-at .ensures .0),
+      line-from (a .at) (a .at + a .under) (length (a .s .now)) (c .form-at .result) (omega arith) (c .form-at .ensures .1),
+    )
+
+pub line-at-spec : {M : Type 1} → statement M
+line-at-spec = tie.close (tie.spec run-of-requires returns add-form-at form-at-requires returns-2)

@@ -1,0 +1,17 @@
+pub mod Tests
+pub mod Numbers
+pub mod Feeding
+pub mod Faults
+pub mod Words
+pub mod PlanLines
+pub mod PlanRuns
+pub mod PlanSound
+pub mod PlanFaults
+pub mod PlanReader
+pub mod PlanOwed
+pub mod PlanPlaces
+pub mod LogLines
+pub mod LogRuns
+pub mod LogSound
+pub mod LogFaults
+pub mod Examples

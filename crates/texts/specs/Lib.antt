@@ -1,0 +1,12 @@
+pub mod Bytes
+pub mod Limits
+pub mod Digits
+pub mod Words
+pub mod Lines
+pub mod Plans
+pub mod PlanTexts
+pub mod PlanFaults
+pub mod PlanOwed
+pub mod PlanPlaces
+pub mod Logs
+pub mod LogFaults
