@@ -1,5 +1,5 @@
 -- The claim about whole runs (01, 'Demand 3 in full').
-use Prim.Native.Nat.{ℕ, _≤_}
+use Prim.Native.Nat.{ℕ}
 use mathlib.Core.Path.{_≡_}
 use mathlib.Core.List.{List, [], _∷_, _++_, map}
 use mathlib.Core.Bool.{Bool, false, cond}
@@ -10,6 +10,7 @@ use Rattle.reuse.specs.Lists.{firsts}
 use Rattle.reuse.specs.Lru.{Reuse, cold, at, reuses, distance}
 use Rattle.reuse.specs.Cache.{cacheHits}
 use Rattle.reuse.specs.Summary.{summaryOf}
+use Rattle.reuse.specs.Traces.{Within}
 use Rattle.after.specs.Calls.{wordOf}
 use Rattle.session.specs.declared.Answer.{Answer}
 use Rattle.session.specs.declared.Answer.the-variants.{Cold, Distance, Refused}
@@ -51,11 +52,6 @@ abbrev pub heldBy : ℕ → Answer → Bool
 heldBy c Cold = false
 heldBy c (Distance d n) = leb d c
 heldBy c (Refused n) = false
-
--- a log within the limits
-pub record Within (t : List ℕ) : Type 0 where
-  pub reads : length t ≤ maxReads
-  pub extents : length (firsts t) ≤ maxExtents
 
 -- what holds of every run over the log t
 pub record Claims (t : List ℕ) : Type 0 where
