@@ -12,7 +12,8 @@ use Rattle.reuse.proofs.Words.{reads-summary}
 use Rattle.reuse.proofs.Join.{join-law, joined-first}
 use Rattle.reuse.proofs.Formed.{summary-well-formed}
 use Rattle.reuse.proofs.Traces.{within-front, within-back}
-use Rattle.summary.specs.Calls.{wrote, joinCall}
+use Rattle.summary.specs.Calls.{wrote, joinCall, traceCall}
+use Rattle.summary.proofs.Calls.{trace-wrote}
 
 -- the join of two logs' summaries, within the limits, is written or refused with 6
 pub join-trace : (a b buffer : List ℕ) → Within (a ++ b) → joinCall (summaryOf a) (summaryOf b) buffer ≡ wrote (summaryOf (a ++ b)) buffer
@@ -41,3 +42,7 @@ join-trace a b buffer w =
     -- no 9
     extents : length (joinedFirst (summaryOf a) (summaryOf b)) ≤ maxExtents
     extents = rw (joined-first a b) (w .extents)
+
+-- the summary of a trace within the limits is written or refused with 6
+pub trace-within : (t buffer : List ℕ) → Within t → traceCall t buffer ≡ wrote (summaryOf t) buffer
+trace-within t buffer w = trace-wrote t buffer (w .reads) (w .extents)
