@@ -3,3 +3,7 @@ mod Places
 mod Ways
 mod Whole
 mod Examples
+mod Levels
+mod Standing
+mod Evaluating
+mod Carrying
