@@ -113,11 +113,11 @@ pub fn stack_of(extents: &[u32]) -> [u32; MAX_EXTENTS]
 pub fn extents_of(trace: &[u32]) -> usize
     ensures { λ r. ⌜ r ≡ min (length (firsts (now (trace .entry)))) (suc maxExtents) ⌝ }
 {
-    let mut stack = [0u32; MAX_EXTENTS];
+    let mut lru = [0u32; MAX_EXTENTS];
     let mut held: usize = 0;
     let mut i: usize = 0;
     while i < trace.len() {
-        let place = touch(&mut stack, held, trace[i]);
+        let place = touch(&mut lru, held, trace[i]);
         match place {
             Place::Cold => {
                 held = held + 1;

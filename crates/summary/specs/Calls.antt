@@ -7,7 +7,7 @@ use lib.Ieee.{binary64, round}
 use lib.ListN.{length, drop}
 use Rattle.reuse.specs.Limits.{maxReads, maxExtents}
 use Rattle.reuse.specs.Lists.{firsts}
-use Rattle.reuse.specs.Summary.{summaryOf, wellFormed, readsOf, hitsOf, missesOf, joinedFirst, joinOf}
+use Rattle.reuse.specs.Summary.{wellFormed, readsOf, hitsOf, missesOf, joinedFirst, joinOf, summaryOf}
 use Rattle.summary.specs.declared.Written.{Written}
 use Rattle.summary.specs.declared.Written.the-variants.{Words, Refused}
 use Rattle.summary.specs.declared.MissCount.{MissCount}

@@ -96,19 +96,19 @@ pub fn of_trace(trace: &[u32], out: &mut [u32]) -> Written
     let mut stack = [0u32; reuse::MAX_EXTENTS];
     let mut first = [0u32; reuse::MAX_EXTENTS];
     let mut hist = [0u32; reuse::MAX_EXTENTS];
-    let v = tracing::take(trace, &mut stack, &mut first, &mut hist);
-    if reuse::MAX_EXTENTS < v {
+    let held = tracing::take(trace, &mut stack, &mut first, &mut hist);
+    if reuse::MAX_EXTENTS < held {
         return Written::Refused(9);
     }
-    let need = 2 + 3 * v;
+    let need = 2 + 3 * held;
     if out.len() < need {
         return Written::Refused(6);
     }
     tracing::write(
         trace.len() as u32,
-        &first[0..v],
-        &stack[0..v],
-        &hist[0..v],
+        &first[0..held],
+        &stack[0..held],
+        &hist[0..held],
         out,
     );
     Written::Words(need)

@@ -13,10 +13,10 @@ use Rattle.reuse.proofs.extents_of.Statement.{statement}
 use Rattle.reuse.proofs.extents_of.Tie as tie
 
 abbrev Inv-loop : tie.InvT-loop
-Inv-loop trace stack₀ held₀ i₀ stack held i = Running stack₀ 0 trace stack held i
+Inv-loop trace lru₀ held₀ i₀ lru held i = Running lru₀ 0 trace lru held i
 
 abbrev μ-loop : tie.MeasureT-loop
-μ-loop trace stack₀ held₀ i₀ stack held i = length trace - i
+μ-loop trace lru₀ held₀ i₀ lru held i = length trace - i
 
 loop-holds : tie.Need-loop-holds Inv-loop μ-loop
 unfolding distinct
