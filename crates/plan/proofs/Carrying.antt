@@ -102,7 +102,7 @@ module _ (text log work out : List ℕ) where
 
         module _ (deep : ℕ) (deepens : depth t ≡ deep) (levels : levelWords * deep ≤ length work) (room : 2 + 3 * length (firsts log) ≤ length out) where
           -- the log's summary
-          carried : runCall text log work out ≡ record { answer = Words (length (summaryOf log)); work = cleared (workWords t) work; out = fronted (summaryOf log) out }
+          pub carried : runCall text log work out ≡ record { answer = Words (length (summaryOf log)); work = cleared (workWords t) work; out = fronted (summaryOf log) out }
           unfolding carriedOut
           carried = by-room ∙ rw (le-leb (workWords t) (length work) (omega arith), le-leb (length (summaryOf log)) (length out) (omega (arith, length-summary log)))
 

@@ -7,3 +7,4 @@ mod Levels
 mod Standing
 mod Evaluating
 mod Carrying
+mod Groupings

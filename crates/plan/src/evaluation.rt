@@ -11,10 +11,10 @@ ghost use Rattle.plan.specs.Calls.{levelWords};
 ghost use Rattle.plan.specs.Evaluation.{countOf, Ready, Roomy, Evaluates, Holdable};
 
 // The words of the largest summary.
-const SUMMARY_WORDS: usize = 770;
+const SUMMARY_WORDS: usize = 2 + 3 * reuse::MAX_EXTENTS;
 
 // The work words of one level of joins: two summaries.
-pub const LEVEL: usize = 1540;
+pub const LEVEL: usize = 2 * SUMMARY_WORDS;
 
 // How far evaluation has come: the position past the form, the brackets after its own, the reads taken, and the words of the summary.
 pub struct Done {
