@@ -84,7 +84,7 @@ module _ (text log work out : List ℕ) where
 
       module _ (within : Within log) where
         -- the log and the plan are within the limits
-        by-room : runCall text log work out ≡ carriedOut t log work out
+        pub by-room : runCall text log work out ≡ carriedOut t log work out
         unfolding planCall
         by-room = by-plan ∙ rw (eq-eqb (reads t) (length log) covers, le-leb (length log) maxReads (within .reads), le-leb (length (firsts log)) maxExtents (within .extents))
 

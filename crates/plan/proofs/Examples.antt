@@ -58,13 +58,13 @@ paper-run work out h k =
 -- the same log by a lone seg: no work words
 pub seg-run : (work out : List ℕ) → 11 ≤ length out
     → runCall (bytes "(seg 7)\n") seven work out
-    ≡ record { answer = Words 11; work = cleared 0 work; out = fronted (7 ∷ 3 ∷ 7 ∷ 3 ∷ 9 ∷ 9 ∷ 3 ∷ 7 ∷ 1 ∷ 2 ∷ 1 ∷ []) out }
-unfolding reads depth firsts remove
+    ≡ record { answer = Words 11; work = work; out = fronted (7 ∷ 3 ∷ 7 ∷ 3 ∷ 9 ∷ 9 ∷ 3 ∷ 7 ∷ 1 ∷ 2 ∷ 1 ∷ []) out }
+unfolding reads depth firsts remove cleared
 seg-run work out k = carried (bytes "(seg 7)\n") seven work out (seg 7) (plans-read .1) refl seven-within 0 refl (omega arith) k ∙ rw seven-summary
 
 -- the empty log
 pub empty-run : (work out : List ℕ) → 2 ≤ length out
-    → runCall (bytes "(seg 0)\n") [] work out ≡ record { answer = Words 2; work = cleared 0 work; out = fronted (0 ∷ 0 ∷ []) out }
-unfolding reads depth firsts
+    → runCall (bytes "(seg 0)\n") [] work out ≡ record { answer = Words 2; work = work; out = fronted (0 ∷ 0 ∷ []) out }
+unfolding reads depth firsts cleared
 empty-run work out k =
     carried (bytes "(seg 0)\n") [] work out (seg 0) (plans-read .2) refl (record { reads = omega arith; extents = omega arith }) 0 refl (omega arith) k ∙ rw empty-summary

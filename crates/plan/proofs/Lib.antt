@@ -6,5 +6,5 @@ mod Examples
 mod Levels
 mod Standing
 mod Evaluating
-mod Carrying
-mod Groupings
+pub mod Carrying
+pub mod Groupings

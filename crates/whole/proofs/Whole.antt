@@ -19,6 +19,7 @@ use Rattle.whole.specs.Claim.{Seen, seen, declined, seenOf, written, hel
 use Rattle.whole.proofs.Calls.{all-accepted, trace-stands, uncut}
 use Rattle.whole.proofs.Refusals.{calls-owed, no-trace}
 use Rattle.whole.proofs.Groupings.{session-outcome, grouping-outcome}
+use Rattle.whole.proofs.Plans.{plan-outcome}
 use Rattle.whole.proofs.Prefixes.{cutting-outcome}
 
 -- a cache of this size holds the extent, by what was seen
@@ -79,6 +80,7 @@ runs t w = record {
   uncut = uncut t w;
   uncut-summary = λ buffer. session-outcome (sessionAfter fresh t) t buffer (trace-stands t w);
   groupings = groupings t w;
+  plans = plan-outcome t w;
   distances = distances t w;
   caches = caches t w;
 }

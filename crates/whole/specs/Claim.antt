@@ -2,7 +2,7 @@
 use Prim.Native.Nat.{ℕ}
 use mathlib.Core.Path.{_≡_}
 use mathlib.Core.List.{List, [], _∷_, _++_, map}
-use mathlib.Core.Bool.{Bool, false, cond}
+use mathlib.Core.Bool.{Bool, false, cond, _&&_}
 use lib.Dec.{leb, ltb}
 use lib.ListN.{length}
 use Rattle.reuse.specs.Limits.{maxReads, maxExtents}
@@ -16,7 +16,11 @@ use Rattle.session.specs.declared.Answer.{Answer}
 use Rattle.session.specs.declared.Answer.the-variants.{Cold, Distance, Refused}
 use Rattle.session.specs.Sessions.{fresh}
 use Rattle.session.specs.Summaries.{summaryCall}
-use Rattle.whole.specs.Runs.{sessionAfter, answersOf, accepted, handed, stopped, outcome, Grouping, parts, logOf, grouped, roomFor, roomy}
+use Rattle.texts.specs.Lines.{got}
+use Rattle.texts.specs.Plans.{Plan, reads as planReads}
+use Rattle.texts.specs.PlanTexts.{planOf}
+use Rattle.plan.specs.Calls.{workWords, runCall}
+use Rattle.whole.specs.Runs.{planned, sessionAfter, answersOf, accepted, handed, stopped, outcome, Grouping, parts, logOf, grouped, roomFor, roomy}
 use Rattle.whole.specs.Cuttings.{Cutting, cutParts, Follows, cutDistances, cutRoomy}
 
 -- a read's answer without its count of sums: a distance or cold, or its refusal
@@ -65,6 +69,9 @@ pub record Claims (t : List ℕ) : Type 0 where
   -- every grouping of every cutting hands over the same words; a call is refused with 6 alone, where its buffer is too short
   pub groupings : (g : Grouping) → logOf (parts g) ≡ t →
       grouped g ≡ cond (roomy g) (handed (summaryOf t)) (stopped 6)
+  -- an accepted plan is a grouping too: its call hands over the same words, or is refused with 6 alone
+  pub plans : (text : List ℕ) (p : Plan) → planOf text ≡ got p → planReads p ≡ length t → (work out : List ℕ) →
+      planned (runCall text t work out) ≡ cond (leb (workWords p) (length work) && roomFor t out) (handed (summaryOf t)) (stopped 6)
   -- the parts' distances, end to end, are what the uncut reading's reads answer
   pub distances : (c : Cutting) → Follows c → logOf (cutParts c) ≡ t →
       cutDistances c ≡ cond (cutRoomy c) (handed (map written (answersOf fresh t))) (stopped 6)
