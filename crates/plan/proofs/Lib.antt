@@ -1,4 +1,3 @@
-mod Positions
 mod Places
 mod Ways
 mod Whole

@@ -14,7 +14,7 @@ use Rattle.texts.specs.PlanPlaces.{Place, segAt, joinAt, badAt, joinEnds, segEn
 use Rattle.plan.specs.declared.lines.Line.{Line}
 use Rattle.plan.specs.declared.lines.Line.the-variants.{Seg, Join, Bad}
 use Rattle.plan.specs.Answers.{LineWithin}
-use Rattle.plan.proofs.Positions.{gone, here}
+use Rattle.texts.proofs.Positions.{gone, here}
 
 -- a line past a later position is past an earlier one
 pub line-from : (at later len : ℕ) (l : Line) → at ≤ later → LineWithin later len l → LineWithin at len l

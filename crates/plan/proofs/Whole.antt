@@ -10,7 +10,7 @@ use Rattle.texts.proofs.PlanOwed as laws
 use Rattle.plan.specs.declared.PlanRead.the-variants as planRead
 use Rattle.plan.specs.declared.reader.Found.the-variants.{Read, Refused}
 use Rattle.plan.specs.Answers.{answerOf, FormIs}
-use Rattle.plan.proofs.Positions.{gone, here}
+use Rattle.texts.proofs.Positions.{gone, here}
 
 -- a text over the limit of bytes
 pub too-long : (text : List ℕ) → maxBytes < length text → planRead.Refused 4 ≡ answerOf (planOf text)

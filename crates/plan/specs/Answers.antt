@@ -4,15 +4,12 @@ use Prim.Native.Nat.{ℕ, suc, _+_, _*_, _≤_, _<_}
 use mathlib.Core.List.{List}
 use lib.ListN.{drop}
 use Rattle.texts.specs.Limits.{maxSeg}
-use Rattle.texts.specs.Digits.{Number, value, bad}
 use Rattle.texts.specs.Lines.{Read, got, refused}
 use Rattle.texts.specs.Plans.{Plan, reads, depth}
 use Rattle.texts.specs.PlanPlaces.{Place, segAt, joinAt, badAt}
 use Rattle.texts.specs.PlanOwed.{FormGives, FormRefuses, PartsGive, PartsRefuse}
 use Rattle.plan.specs.declared.PlanRead.{PlanRead}
 use Rattle.plan.specs.declared.PlanRead.the-variants as planRead
-use Rattle.plan.specs.declared.pieces.Number.{Number as NumberAt}
-use Rattle.plan.specs.declared.pieces.Number.the-variants.{Value, Bad as NoNumber}
 use Rattle.plan.specs.declared.lines.Line.{Line}
 use Rattle.plan.specs.declared.lines.Line.the-variants.{Seg, Join, Bad}
 use Rattle.plan.specs.declared.reader.Found.{Found}
@@ -22,16 +19,6 @@ use Rattle.plan.specs.declared.reader.Found.the-variants.{Read as FormRe
 abbrev pub answerOf : Read Plan → PlanRead
 answerOf (got t) = planRead.Plan (reads t) (depth t)
 answerOf (refused k n) = planRead.Refused n
-
--- a number and the text after it
-abbrev pub numberIn : List ℕ → NumberAt → Number
-numberIn s (Value n end) = value n (drop end s)
-numberIn s NoNumber = bad
-
--- the position past a number
-abbrev pub NumberWithin : ℕ → ℕ → NumberAt → Type 0
-NumberWithin at len (Value n end) = (at < end) × (end ≤ len)
-NumberWithin at len NoNumber = Unit
 
 -- a line and the text after it
 abbrev pub placeOf : List ℕ → Line → Place

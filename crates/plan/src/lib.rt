@@ -1,7 +1,6 @@
 // Joining plans: a text says how a log is cut and grouped, and the plan is carried out in lent memory.
 mod evaluation;
 mod lines;
-mod pieces;
 mod reader;
 mod rows;
 

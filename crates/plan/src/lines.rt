@@ -1,6 +1,5 @@
 // The lines of a plan text.
-use crate::pieces;
-use crate::pieces::Number;
+use texts::Found;
 ghost use mathlib.Core.Path.{_≡_};
 ghost use Prim.Native.Nat.{_+_, _≤_};
 ghost use lib.ListN.{length, drop};
@@ -61,10 +60,10 @@ fn seg_at(s: &[u8], at: usize) -> Line
     ensures is { λ r. ⌜ placeOf (now (s .entry)) r ≡ numberAt (numberOf (drop at (now (s .entry)))) ⌝ }
     ensures within { λ r. ⌜ LineWithin at (length (now (s .entry))) r ⌝ }
 {
-    let Number::Value(reads, end) = pieces::number_at(s, at) else {
+    let Found::Value(reads, end) = texts::number_at(s, at) else {
         return Line::Bad;
     };
-    let run = pieces::run_of(s, end, 41, s.len() - end);
+    let run = texts::run_of(s, end, 41, s.len() - end);
     if run == 0 {
         return Line::Bad;
     }
@@ -77,10 +76,10 @@ fn form_at(s: &[u8], at: usize) -> Line
     ensures is { λ r. ⌜ placeOf (now (s .entry)) r ≡ formAt (drop at (now (s .entry))) ⌝ }
     ensures within { λ r. ⌜ LineWithin at (length (now (s .entry))) r ⌝ }
 {
-    if pieces::word_at(s, at, b"(join") {
+    if texts::word_at(s, at, b"(join") {
         return join_end(s, at + 5);
     }
-    if pieces::word_at(s, at, b"(seg ") {
+    if texts::word_at(s, at, b"(seg ") {
         return seg_at(s, at + 5);
     }
     Line::Bad
@@ -92,7 +91,7 @@ pub fn line_at(s: &[u8], at: usize, under: usize) -> Line
     ensures is { λ r. ⌜ placeOf (now (s .entry)) r ≡ lineAt under (drop at (now (s .entry))) ⌝ }
     ensures within { λ r. ⌜ LineWithin at (length (now (s .entry))) r ⌝ }
 {
-    if pieces::run_of(s, at, 32, under) != under {
+    if texts::run_of(s, at, 32, under) != under {
         return Line::Bad;
     }
     form_at(s, at + under)

@@ -4,7 +4,7 @@ use Prim.Native.Nat.{_+_}
 use native.Mathlib.Omega.{arith}
 use lib.ListN.{length}
 use Rattle.texts.specs.Plans.{joinWord, segWord}
-use Rattle.plan.proofs.Positions.{word-fits}
+use Rattle.texts.proofs.Positions.{word-fits}
 use Rattle.plan.proofs.Places.{line-from, form-join, form-seg, form-bad}
 use borrow.Author.Needs.{needs}
 use Rattle.plan.proofs.lines.form_at.Statement.{statement}

@@ -1,11 +1,18 @@
 -- `plan::lines::line_at` meets its contract.
-use Prim.Native.Nat.{_+_}
+use Prim.Native.Nat.{_+_, _≤_}
 use native.Mathlib.Omega.{arith}
 use lib.ListN.{length}
+use Rattle.texts.proofs.Pieces.{run-within}
 use Rattle.plan.proofs.Places.{line-from, line-bad, line-form}
 use borrow.Author.Needs.{needs}
 use Rattle.plan.proofs.lines.line_at.Statement.{statement}
 use Rattle.plan.proofs.lines.line_at.Tie as tie
+
+-- the leading spaces stand within the text
+spaced : (c : tie.Else1) → c .before .before .before .args .at + c .before .run-of .result ≤ length (c .before .before .before .args .s .now)
+spaced c =
+    let a = c .before .before .before .args in
+    run-within (a .s .now) (a .at) 32 (a .under) (c .before .run-of .result) (c .before .before .before .pre) (c .before .run-of .ensures) .0
 
 run-of-requires : tie.Need-run-of-requires
 run-of-requires c κs = search needs
@@ -13,18 +20,18 @@ run-of-requires c κs = search needs
 returns : tie.Need-returns
 returns c =
     let a = c .before .before .before .args in
-    (line-bad (a .s .now) (a .at) (a .under) (c .before .run-of .result) (c .before .run-of .ensures .0) (c .if1 .taken), tt)
+    (line-bad (a .s .now) (a .at) (a .under) (c .before .run-of .result) (c .before .run-of .ensures) (c .if1 .taken), tt)
 
 add-form-at : tie.Need-add-form-at
-add-form-at c = search needs
+add-form-at c = omega (arith, spaced c)
 
 form-at-requires : tie.Need-form-at-requires
-form-at-requires c κs = search needs
+form-at-requires c κs = omega (arith, spaced c)
 
 returns-2 : tie.Need-returns-2
 returns-2 c =
     let a = c .before .before .before .before .args in (
-      line-form (a .s .now) (a .at) (a .under) (c .before .before .run-of .result) (c .before .before .run-of .ensures .0) (c .before .if1 .left) _ (c .form-at .ensures .0),
+      line-form (a .s .now) (a .at) (a .under) (c .before .before .run-of .result) (c .before .before .run-of .ensures) (c .before .if1 .left) _ (c .form-at .ensures .0),
       line-from (a .at) (a .at + a .under) (length (a .s .now)) (c .form-at .result) (omega arith) (c .form-at .ensures .1),
     )
 

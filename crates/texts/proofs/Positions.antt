@@ -46,6 +46,16 @@ run-yes (suc k) b x l e h = rw (eq-eqb x b e) (sym (add-one (runOf k b l)) ∙ a
 pub run-done : (k b : ℕ) (l : List ℕ) → k ≡ 0 → runOf k b l ≡ 0
 unfolding runOf
 run-done k b l e = rw e
+
+-- of no bytes only no word stands there
+word-nil : (w : List ℕ) → wordAt w [] ≡ eqb (length w) 0
+unfolding wordAt
+word-nil [] = refl
+word-nil (c ∷ w) = sym (ne-eqb (suc (length w)) 0 (λ e. omega (arith, e)))
+
+-- past the end likewise
+pub word-past : (s : List ℕ) (i : ℕ) (w : List ℕ) → length s ≤ i → wordAt w (drop i s) ≡ eqb (length w) 0
+word-past s i w h = ap (wordAt w) (gone s i h) ∙ word-nil w
 
 module _ (s : List ℕ) (i : ℕ) where
   -- no run at the end
