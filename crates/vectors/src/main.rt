@@ -4,12 +4,14 @@ use libc::STDOUT_FILENO;
 
 mod answers;
 mod cache;
+mod calls;
 mod count;
 mod cutting;
 mod damage;
 mod direct;
 mod full;
 mod hits;
+mod joined;
 mod limits;
 mod pool;
 mod rng;

@@ -59,6 +59,17 @@ pub fn same(a: &[u32], b: &[u32]) -> bool {
     all
 }
 
+// Whether x is one of the words.
+pub fn has(a: &[u32], x: u32) -> bool {
+    let mut found = false;
+    for i in 0..a.len() {
+        if get(a, i) == x {
+            found = true;
+        }
+    }
+    found
+}
+
 // The first index at which two slices of one length differ, or the length.
 pub fn first_difference(a: &[u32], b: &[u32]) -> usize {
     let mut k = a.len();

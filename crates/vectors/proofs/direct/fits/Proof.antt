@@ -1,8 +1,8 @@
--- `vectors::limits::fits` is safe and ends.
+-- `vectors::direct::fits` is safe and ends.
 use Prim.Native.Nat.{_-_}
 use borrow.Author.Needs.{needs}
-use Rattle.vectors.proofs.limits.fits.Statement.{statement}
-use Rattle.vectors.proofs.limits.fits.Tie as tie
+use Rattle.vectors.proofs.direct.fits.Statement.{statement}
+use Rattle.vectors.proofs.direct.fits.Tie as tie
 
 abbrev Inv-loop : tie.InvT-loop
 Inv-loop log known₀ n₀ all₀ i₀ i-end known n all i = Unit {0}
