@@ -13,11 +13,20 @@ mod full;
 mod hits;
 mod joined;
 mod limits;
+mod plan_damage;
+mod plan_limits;
+mod plan_long;
+mod plan_numbers;
+mod plan_reader;
+mod plan_rule;
+mod plan_text;
+mod plans;
 mod pool;
 mod rng;
 mod rows;
 mod short;
 mod state;
+mod text;
 mod watches;
 mod words;
 
@@ -69,10 +78,21 @@ fn of_refusals() {
     line(b"limits of joins and parts", limits::run(300));
 }
 
+// Plan texts read by the library and by a second reader.
+fn of_plans() {
+    line(b"plans", plans::run(300));
+    line(b"plans, cut", plans::run_cut(45));
+    line(b"plans, damaged", plans::run_damaged(45));
+    line(b"plans at the limits of joins", plan_limits::run());
+    line(b"plans with other numbers", plan_numbers::run());
+    line(b"plans at the limit of bytes", plan_long::run());
+}
+
 // All rows, then all comparisons.
 fn main() {
     rows::all();
     against_caches();
     of_parts();
     of_refusals();
+    of_plans();
 }
