@@ -1,5 +1,6 @@
-// Plan texts with one byte changed, removed or put in.
+// Plan texts with one byte changed, removed or put in, and with one line removed or doubled.
 use crate::count::Count;
+use crate::plan_reader;
 use crate::plans;
 use crate::rng;
 use crate::text;
@@ -42,14 +43,6 @@ fn changed(text: &mut [u8], n: usize, p: usize, count: Count) -> Count {
     c
 }
 
-// A text of n bytes with the byte at p removed.
-fn removed(text: &[u8], other: &mut [u8], n: usize, p: usize, count: Count) -> Count {
-    let next = words::plus(p, 1);
-    let at = text::put_word(other, 0, text::front(text, p));
-    let end = text::put_word(other, at, text::span(text, next, n));
-    plans::compare(text::front(other, end), count)
-}
-
 // A text of n bytes with a byte put in before the one at p.
 fn put_in(text: &[u8], other: &mut [u8], n: usize, p: usize, count: Count) -> Count {
     let at = text::put_word(other, 0, text::front(text, p));
@@ -57,11 +50,34 @@ fn put_in(text: &[u8], other: &mut [u8], n: usize, p: usize, count: Count) -> Co
     each_byte(other, end, p, count)
 }
 
-// A text of n bytes damaged at p in every way.
+// The bytes before `to`, then those from `from` up to n.
+fn spliced(text: &[u8], other: &mut [u8], n: usize, to: usize, from: usize, count: Count) -> Count {
+    let at = text::put_word(other, 0, text::front(text, to));
+    let end = text::put_word(other, at, text::span(text, from, n));
+    plans::compare(text::front(other, end), count)
+}
+
+// Whether a line starts at p.
+fn starts_line(text: &[u8], p: usize) -> bool {
+    p == 0 || text::get(text, std::num::wrapping_sub_usize(p, 1)) == 10
+}
+
+// A text of n bytes with the line at p removed, and with it doubled, where one starts there.
+fn lines(text: &[u8], other: &mut [u8], n: usize, p: usize, count: Count) -> Count {
+    let end = plan_reader::line_end(text, p);
+    if !starts_line(text, p) {
+        return count;
+    }
+    let c = spliced(text, other, n, p, end, count);
+    spliced(text, other, n, end, p, c)
+}
+
+// A text of n bytes damaged at p: the byte changed, removed, one put in before it, and the line removed and doubled.
 fn damaged(text: &mut [u8], other: &mut [u8], n: usize, p: usize, count: Count) -> Count {
     let a = changed(text, n, p, count);
-    let b = removed(text, other, n, p, a);
-    put_in(text, other, n, p, b)
+    let b = spliced(text, other, n, p, words::plus(p, 1), a);
+    let c = put_in(text, other, n, p, b);
+    lines(text, other, n, p, c)
 }
 
 // A text of n bytes damaged at every place, its end included.

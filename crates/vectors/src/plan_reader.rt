@@ -53,7 +53,7 @@ fn stop(r: Reading, n: u32) -> Reading {
 }
 
 // The position past the line's byte 10, or `from` where none stands among the next bytes.
-fn line_end(text: &[u8], from: usize) -> usize {
+pub fn line_end(text: &[u8], from: usize) -> usize {
     let mut end = from;
     for i in 0..LINE {
         let at = words::plus(from, LINE - 1 - i);
