@@ -3,6 +3,7 @@ use mathlib.Core.Path.{_≡_}
 use Prim.Native.Nat.{ℕ, suc, _+_, _*_, _≤_, _<_}
 use mathlib.Core.List.{List}
 use lib.ListN.{drop}
+use Rattle.texts.specs.Limits.{maxSeg}
 use Rattle.texts.specs.Digits.{Number, value, bad}
 use Rattle.texts.specs.Lines.{Read, got, refused}
 use Rattle.texts.specs.Plans.{Plan, reads, depth}
@@ -47,7 +48,7 @@ LineWithin at len Bad = Unit
 -- the position past a form, and the bounds of its brackets, its depth and its reads
 abbrev pub FormWithin : ℕ → ℕ → ℕ → ℕ → ℕ → ℕ → Found → Type 0
 FormWithin at len most under limit base (FormRead total deep closes next) =
-    (at < next) × (next ≤ len) × (closes ≤ most) × (deep + under ≤ limit) × (total + 1048576 * at ≤ 1048576 * next + base)
+    (at < next) × (next ≤ len) × (closes ≤ most) × (deep + under ≤ limit) × (total + maxSeg * at ≤ maxSeg * next + base)
 FormWithin at len most under limit base (Refused n) = Unit
 
 -- a form at a position is what the definition reads there, however many lines stand before it

@@ -1,1 +1,4 @@
 pub mod Answers
+pub mod Calls
+pub mod Evaluation
+pub mod Groupings

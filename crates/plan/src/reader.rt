@@ -2,7 +2,7 @@
 use crate::lines;
 use crate::lines::Line;
 ghost use mathlib.Core.Path.{_≡_};
-ghost use Prim.Native.Nat.{_+_, _*_, _≤_, _<_, max};
+ghost use Prim.Native.Nat.{suc, _+_, _*_, _≤_, _<_, max};
 ghost use lib.ListN.{length};
 ghost use Rattle.texts.specs.Limits.{maxBytes, maxJoins, maxSeg};
 ghost use Rattle.texts.specs.PlanOwed.{closableAfter};
@@ -96,7 +96,7 @@ fn parts(
     low: usize,
 ) -> Found
     requires { ⌜ (at ≤ length (now s)) × (length (now s) ≤ maxBytes) × (under ≤ maxJoins) × (most < under) × (reads ≤ maxSeg * at) × (count ≤ at) × (low + under ≤ maxJoins) ⌝ }
-    ensures within { λ r. ⌜ FormWithin at (length (now (s .entry))) most under 9 reads r ⌝ }
+    ensures within { λ r. ⌜ FormWithin at (length (now (s .entry))) most under (suc maxJoins) reads r ⌝ }
     ensures is { λ r. ⌜ PartsIs (now (s .entry)) at under most count reads low r ⌝ }
 {
     let f = form(s, at, under, closable(most, count), count);

@@ -15,6 +15,7 @@ pub mod Misses
 pub mod Passes
 pub mod Engine
 pub mod Runs
+pub mod Traces
 pub mod Laying
 pub mod Slices
 pub mod Examples

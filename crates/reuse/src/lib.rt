@@ -1,9 +1,10 @@
 // Reuse distances: the definitions, their laws, and the engine of all batch work, an LRU stack in a lent slice.
 ghost use mathlib.Core.Path.{_≡_};
 ghost use mathlib.Core.List.{[], _∷_, _++_};
-ghost use lib.ListN.{drop};
+ghost use Prim.Native.Nat.{suc, min};
+ghost use lib.ListN.{length, drop};
 ghost use Rattle.reuse.specs.Limits.{maxReads, maxExtents, slotCount, sumCount, levels};
-ghost use Rattle.reuse.specs.Lists.{mem};
+ghost use Rattle.reuse.specs.Lists.{mem, firsts};
 ghost use Rattle.reuse.specs.Engine.{placeOf, leftBy, stackWords};
 
 // The most reads of a trace.
@@ -106,6 +107,32 @@ pub fn stack_of(extents: &[u32]) -> [u32; MAX_EXTENTS]
         i = i + 1;
     }
     stack
+}
+
+// How many different extents a trace has, counted to one more than the limit.
+pub fn extents_of(trace: &[u32]) -> usize
+    ensures { λ r. ⌜ r ≡ min (length (firsts (now (trace .entry)))) (suc maxExtents) ⌝ }
+{
+    let mut lru = [0u32; MAX_EXTENTS];
+    let mut held: usize = 0;
+    let mut i: usize = 0;
+    while i < trace.len() {
+        let place = touch(&mut lru, held, trace[i]);
+        match place {
+            Place::Cold => {
+                held = held + 1;
+            }
+            Place::Depth(_) => {}
+            Place::Full => {
+                return MAX_EXTENTS + 1;
+            }
+            Place::BadCount => {
+                return held;
+            }
+        }
+        i = i + 1;
+    }
+    held
 }
 
 // Whether x stands in the slice. No early exit: the loop is vectorized.

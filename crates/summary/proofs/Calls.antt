@@ -7,12 +7,13 @@ use mathlib.Core.Bool.{true, false}
 use lib.ListN.{length, drop, getD, length-map}
 use borrow.Author.Tests.{le-leb, lt-leb}
 use Rattle.reuse.specs.Limits.{maxReads, maxExtents}
-use Rattle.reuse.specs.Summary.{wellFormed, readsOf, joinedFirst, joinedRecent, joinedCounts, joinOf}
+use Rattle.reuse.specs.Lists.{firsts}
+use Rattle.reuse.specs.Summary.{summaryOf, wellFormed, readsOf, joinedFirst, joinedRecent, joinedCounts, joinOf}
 use Rattle.reuse.proofs.Formed.{formed, joined-length}
-use Rattle.reuse.proofs.Words.{length-words}
+use Rattle.reuse.proofs.Words.{length-words, length-summary}
 use Rattle.reuse.proofs.Counts.{length-from}
 use Rattle.summary.specs.declared.Written.the-variants.{Words}
-use Rattle.summary.specs.Calls.{wrote, joinCall, refused}
+use Rattle.summary.specs.Calls.{wrote, joinCall, traceCall, refused}
 use Rattle.summary.specs.Rows.{putAt}
 
 -- the words of a join are 2 + 3v
@@ -21,6 +22,19 @@ unfolding joinOf
 join-length a b ha hb =
     (length-words (readsOf a + readsOf b) (joinedFirst a b) (joinedRecent a b) (joinedCounts a b)
     (joined-length a b (formed a ha) (formed b hb)) (unfold joinedCounts in simp (length-map, length-from)))
+
+-- words for which there is no room
+wrote-short : (w out : List ℕ) → length out < length w → wrote w out ≡ refused 6 out
+unfolding wrote
+wrote-short w out l = simp (lt-leb (length w) (length out) l)
+
+-- n words that are written
+wrote-all : (w out : List ℕ) (n : ℕ) → length w ≡ n → n ≤ length out → wrote w out ≡ record { answer = Words n; buffer = putAt out 0 w }
+unfolding wrote putAt
+wrote-all w out n e l =
+    let z : 0 + length w ≡ length w = omega arith in
+    rw z (simp (le-leb (length w) (length out) (omega arith))
+    (ap (λ (k : ℕ). record { answer = Words k; buffer = w ++ drop (length w) out }) e))
 
 module _ (a b out : List ℕ) where
   -- A is not well formed
@@ -54,15 +68,36 @@ module _ (a b out : List ℕ) where
 
           -- too few words for the answer
           pub refused-room : length out < 2 + 3 * length (joinedFirst a b) → joinCall a b out ≡ refused 6 out
-          unfolding wrote
-          refused-room l =
-              joins ∙ simp (lt-leb (length (joinOf a b)) (length out) (omega (arith, join-length a b ha hb)))
+          refused-room l = joins ∙ wrote-short (joinOf a b) out (omega (arith, join-length a b ha hb))
 
           -- the join is written
           pub joined : 2 + 3 * length (joinedFirst a b) ≤ length out
               → joinCall a b out ≡ record { answer = Words (2 + 3 * length (joinedFirst a b)); buffer = putAt out 0 (joinOf a b) }
-          unfolding wrote putAt
-          joined l =
-              let n : 0 + length (joinOf a b) ≡ length (joinOf a b) = omega arith in
-              joins ∙ rw n (simp (le-leb (length (joinOf a b)) (length out) (omega (arith, join-length a b ha hb)))
-              (ap (λ (k : ℕ). record { answer = Words k; buffer = joinOf a b ++ drop (length (joinOf a b)) out }) (join-length a b ha hb)))
+          joined l = joins ∙ wrote-all (joinOf a b) out (2 + 3 * length (joinedFirst a b)) (join-length a b ha hb) l
+
+module _ (t out : List ℕ) where
+  -- too many reads of a trace
+  pub trace-refused-reads : maxReads < length t → traceCall t out ≡ refused 8 out
+  unfolding traceCall
+  trace-refused-reads l = simp (lt-leb (length t) maxReads l)
+
+  module _ (hl : length t ≤ maxReads) where
+    -- too many extents
+    pub trace-refused-extents : maxExtents < length (firsts t) → traceCall t out ≡ refused 9 out
+    unfolding traceCall
+    trace-refused-extents l = simp (le-leb (length t) maxReads hl, lt-leb (length (firsts t)) maxExtents l)
+
+    module _ (hv : length (firsts t) ≤ maxExtents) where
+      -- past the tests of the trace
+      pub trace-wrote : traceCall t out ≡ wrote (summaryOf t) out
+      unfolding traceCall
+      trace-wrote = simp (le-leb (length t) maxReads hl, le-leb (length (firsts t)) maxExtents hv)
+
+      -- too few words for the answer
+      pub trace-refused-room : length out < 2 + 3 * length (firsts t) → traceCall t out ≡ refused 6 out
+      trace-refused-room l = trace-wrote ∙ wrote-short (summaryOf t) out (omega (arith, length-summary t))
+
+      -- the summary is written
+      pub traced : 2 + 3 * length (firsts t) ≤ length out
+          → traceCall t out ≡ record { answer = Words (2 + 3 * length (firsts t)); buffer = putAt out 0 (summaryOf t) }
+      traced l = trace-wrote ∙ wrote-all (summaryOf t) out (2 + 3 * length (firsts t)) (length-summary t) l

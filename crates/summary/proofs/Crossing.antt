@@ -2,36 +2,40 @@
 use mathlib.Core.Path.{_≡_, refl, sym, _∙_}
 use Prim.Native.Nat.{ℕ, suc, _+_, _-_, _≤_, _<_, _^_}
 use native.Mathlib.Omega.{arith}
-use mathlib.Core.List.{List}
+use mathlib.Core.List.{List, foldl}
+use mathlib.Core.Bool.{true}
 use lib.Dec.{eqb}
 use lib.ListN.{length, take, getD, set, length-set, length-take}
 use lib.Seq.{take-all, getD-set-same, getD-set-other}
 use borrow.Author.Tests.{eqb-true, eqb-false}
 use Rattle.reuse.specs.declared.Place.{Place}
 use Rattle.reuse.specs.declared.Place.the-variants.{Cold, Depth, Full, BadCount}
-use Rattle.reuse.specs.Lists.{count}
-use Rattle.reuse.specs.Lru.{cold, at, depth, reuses, isAt, countAt}
+use Rattle.reuse.specs.Lists.{count, distinct}
+use Rattle.reuse.specs.Lru.{cold, at, depth, touch, reuses, isAt, countAt}
 use Rattle.reuse.specs.Engine.{placeOf, leftBy}
 use Rattle.reuse.proofs.Lists.{by-test}
 use Rattle.reuse.proofs.Stack.{length-reuses}
 use Rattle.reuse.proofs.Counts.{count-le, count-snoc}
 use Rattle.reuse.proofs.Engine.{place-depth, place-range, place-cold}
 use Rattle.reuse.proofs.Runs.{Running, run-start, run-full, run-bad, held-fits, next-answers, turn-cold, turn-known}
-use Rattle.summary.specs.Rows.{Counted, Countable}
+use Rattle.summary.specs.Rows.{Counted}
 
 -- the first i reads are taken, and their distances counted
 pub record Crossing (stack : List ℕ) (n : ℕ) (reads hist row counts : List ℕ) (held i : ℕ) : Type 0 where
-  pub given : Countable stack n reads hist
+  pub wide : length hist ≡ length stack
+  pub small : (j : ℕ) → getD hist j 0 + length reads < 2 ^ 32
   pub run : Running stack n reads row held i
   pub counted : Counted hist (reuses (take n stack) (take i reads)) counts
 
 module _ (stack : List ℕ) (n : ℕ) (reads hist : List ℕ) where
   -- none is taken
-  pub cross-start : Countable stack n reads hist → Crossing stack n reads hist stack hist n 0
+  pub cross-start : n ≤ length stack → distinct (take n stack) ≡ true → length hist ≡ length stack → ((j : ℕ) → getD hist j 0 + length reads < 2 ^ 32)
+      → Crossing stack n reads hist stack hist n 0
   unfolding reuses countAt count
-  cross-start g = record {
-    given = g;
-    run = run-start stack n reads (g .held) (g .once);
+  cross-start f u w s = record {
+    wide = w;
+    small = s;
+    run = run-start stack n reads f u;
     counted = record { size = refl; each = λ i l. omega arith };
   }
 
@@ -43,8 +47,8 @@ module _ (stack : List ℕ) (n : ℕ) (reads hist : List ℕ) where
         omega (arith, count-le (isAt d) (reuses (take n stack) (take i reads)), length-reuses (take n stack) (take i reads), length-take i reads)
 
     -- the engine finds room
-    pub not-full : placeOf row held (getD reads i 0) ≡ Full → ⊥
-    not-full p = omega (arith, run-full stack n reads row held i (h .run) l p, h .given .room)
+    pub not-full : length (foldl touch (take n stack) reads) ≤ length stack → placeOf row held (getD reads i 0) ≡ Full → ⊥
+    not-full m p = omega (arith, run-full stack n reads row held i (h .run) l p)
 
     -- and a fit count
     pub not-bad : placeOf row held (getD reads i 0) ≡ BadCount → ⊥
@@ -75,7 +79,7 @@ module _ (stack : List ℕ) (n : ℕ) (reads hist : List ℕ) where
 
       -- its count is one of the row
       pub count-place : d - 1 < length counts
-      count-place = omega (arith, range .0, range .1, h .counted .size, h .given .wide, held-within)
+      count-place = omega (arith, range .0, range .1, h .counted .size, h .wide, held-within)
 
       -- and its count, which fits
       pub count-fits : getD counts (d - 1) 0 + 1 < 2 ^ 32
@@ -83,7 +87,7 @@ module _ (stack : List ℕ) (n : ℕ) (reads hist : List ℕ) where
           omega (
             arith,
             h .counted .each (d - 1) (omega (arith, count-place, h .counted .size)),
-            h .given .small (d - 1),
+            h .small (d - 1),
             counted-le (suc (d - 1)),
             l,
           )
@@ -110,12 +114,12 @@ module _ (stack : List ℕ) (n : ℕ) (reads hist : List ℕ) where
     module _ (r : Place) (left others : List ℕ) (held' : ℕ) (p : r ≡ placeOf row held (getD reads i 0)) (q : left ≡ leftBy r held (getD reads i 0) row) where
       -- a cold read
       pub cross-cold : r ≡ Cold → others ≡ counts → held' ≡ held + 1 → Crossing stack n reads hist left others held' (i + 1)
-      cross-cold e f g = rw (f, g) (record { given = h .given; run = turn-cold stack n reads row held i (h .run) l r left p q e; counted = counted-cold (sym p ∙ e) })
+      cross-cold e f g = rw (f, g) (record { wide = h .wide; small = h .small; run = turn-cold stack n reads row held i (h .run) l r left p q e; counted = counted-cold (sym p ∙ e) })
 
       -- a read at a distance
       pub cross-known : (d : ℕ) → r ≡ Depth d → others ≡ set counts (d - 1) (getD counts (d - 1) 0 + 1) → held' ≡ held
           → Crossing stack n reads hist left others held' (i + 1)
-      cross-known d e f g = rw (f, g) (record { given = h .given; run = turn-known stack n reads row held i (h .run) l r left p q d e; counted = counted-known d (sym p ∙ e) })
+      cross-known d e f g = rw (f, g) (record { wide = h .wide; small = h .small; run = turn-known stack n reads row held i (h .run) l r left p q d e; counted = counted-known d (sym p ∙ e) })
 
   -- all are taken
   pub cross-end : (row counts : List ℕ) (held i : ℕ) → Crossing stack n reads hist row counts held i → length reads ≤ i → Counted hist (reuses (take n stack) reads) counts

@@ -1,4 +1,4 @@
--- The words of a join, putAt into the lent buffer part by part.
+-- The words of a summary put into the lent buffer part by part, and those of a join.
 use mathlib.Core.Path.{_≡_, refl, sym, ap, _∙_}
 use Prim.Native.Nat.{ℕ, _+_, _≤_}
 use native.Mathlib.Omega.{arith}
@@ -43,6 +43,12 @@ fill-step out l row n h m row' n' w e q = record {
   size = rw (length-append l m) (omega (arith, h .size));
   fits = omega arith;
 }
+
+-- the parts of a summary, one after the other, are its words
+pub words-filled : (out : List ℕ) (l : ℕ) (f r h row : List ℕ) (n : ℕ) → Filled out ((((l ∷ length f ∷ []) ++ f) ++ r) ++ h) row n
+    → row ≡ putAt out 0 (words l f r h)
+unfolding words
+words-filled out l f r h row n w = w .same ∙ ap (putAt out 0) (simp append-assoc)
 
 module _ (a b out : List ℕ) (v : ℕ) (g : Joinable a b out v) where
   -- F of the join has v words

@@ -6,7 +6,8 @@ use lib.Dec.{eqb, leb}
 use lib.Ieee.{binary64, round}
 use lib.ListN.{length, drop}
 use Rattle.reuse.specs.Limits.{maxReads, maxExtents}
-use Rattle.reuse.specs.Summary.{wellFormed, readsOf, hitsOf, missesOf, joinedFirst, joinOf}
+use Rattle.reuse.specs.Lists.{firsts}
+use Rattle.reuse.specs.Summary.{wellFormed, readsOf, hitsOf, missesOf, joinedFirst, joinOf, summaryOf}
 use Rattle.summary.specs.declared.Written.{Written}
 use Rattle.summary.specs.declared.Written.the-variants.{Words, Refused}
 use Rattle.summary.specs.declared.MissCount.{MissCount}
@@ -42,6 +43,13 @@ joinCall a b buffer =
     (refused 8 buffer))
     (refused 5 buffer))
     (refused 5 buffer)
+
+-- the summary of a trace: 8, 9, 6
+unfoldable pub traceCall : List ℕ → List ℕ → Wrote
+traceCall t buffer =
+    cond (leb (length t) maxReads)
+    (cond (leb (length (firsts t)) maxExtents) (wrote (summaryOf t) buffer) (refused 9 buffer))
+    (refused 8 buffer)
 
 -- the misses at size c, or 5
 unfoldable pub missesCall : List ℕ → ℕ → MissCount

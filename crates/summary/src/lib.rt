@@ -1,10 +1,11 @@
-// Summaries as words in lent slices: the well-formedness test, join, misses and hit share.
+// Summaries as words in lent slices: the summary of a trace, the well-formedness test, join, misses and hit share.
 mod joining;
 mod rows;
+mod tracing;
 
 ghost use mathlib.Core.Path.{_≡_};
 ghost use Rattle.reuse.specs.Summary.{wellFormed};
-ghost use Rattle.summary.specs.Calls.{joinCall, missesCall, shareOf, shareCall};
+ghost use Rattle.summary.specs.Calls.{joinCall, traceCall, missesCall, shareOf, shareCall};
 
 // What a call that writes words answers: how many stand at the front of the lent buffer, or the refusal's number.
 pub enum Written {
@@ -82,6 +83,34 @@ pub fn join(a: &[u32], b: &[u32], out: &mut [u32]) -> Written
         return Written::Refused(6);
     }
     joining::write(a, b, out, extents);
+    Written::Words(need)
+}
+
+// The summary of a trace, at the front of `out`.
+pub fn of_trace(trace: &[u32], out: &mut [u32]) -> Written
+    ensures { λ r. ⌜ (r ≡ traceCall (now (trace .entry)) (now (out .entry)) .answer) × (now (out .exit) ≡ traceCall (now (trace .entry)) (now (out .entry)) .buffer) ⌝ }
+{
+    if (reuse::MAX_READS as usize) < trace.len() {
+        return Written::Refused(8);
+    }
+    let mut stack = [0u32; reuse::MAX_EXTENTS];
+    let mut first = [0u32; reuse::MAX_EXTENTS];
+    let mut hist = [0u32; reuse::MAX_EXTENTS];
+    let held = tracing::take(trace, &mut stack, &mut first, &mut hist);
+    if reuse::MAX_EXTENTS < held {
+        return Written::Refused(9);
+    }
+    let need = 2 + 3 * held;
+    if out.len() < need {
+        return Written::Refused(6);
+    }
+    tracing::write(
+        trace.len() as u32,
+        &first[0..held],
+        &stack[0..held],
+        &hist[0..held],
+        out,
+    );
     Written::Words(need)
 }
 

@@ -10,6 +10,7 @@ use borrow.Author.Tests.{ne-eqb}
 use Rattle.reuse.specs.Limits.{maxReads, maxExtents}
 use Rattle.reuse.specs.Lists.{mem, firsts}
 use Rattle.reuse.specs.Lru.{Reuse, cold, at, depth, touch, stack, reuses, distance}
+use Rattle.reuse.specs.Traces.{Within}
 use Rattle.reuse.proofs.Lists.{firsts-new, firsts-longer}
 use Rattle.reuse.proofs.Stack.{stack-snoc}
 use Rattle.reuse.proofs.Depth.{distance-law}
@@ -20,7 +21,7 @@ use Rattle.session.specs.Reads.{roomed, stepAt, readOf}
 use Rattle.session.proofs.Stands.{Stands, fresh-stands}
 use Rattle.session.proofs.Read.{over, read-full, read-many, read-taken, read-stands}
 use Rattle.whole.specs.Runs.{sessionAfter, answersOf, keep, accepted}
-use Rattle.whole.specs.Claim.{Seen, seen, declined, seenOf, Within}
+use Rattle.whole.specs.Claim.{Seen, seen, declined, seenOf}
 
 -- a step's answer shows the depth
 seen-step : (s : Session) (x : ℕ) (r : Reuse) → seenOf (stepAt s x r .answer) ≡ seen r

@@ -11,6 +11,7 @@ use Rattle.reuse.specs.Limits.{maxReads, maxExtents}
 use Rattle.reuse.specs.Lists.{firsts}
 use Rattle.reuse.specs.Lru.{reuses}
 use Rattle.reuse.specs.Summary.{summaryOf, readsOf, firstOf, recentOf}
+use Rattle.reuse.specs.Traces.{Within}
 use Rattle.reuse.proofs.Lists.{firsts-append}
 use Rattle.reuse.proofs.Distinct.{distinct-firsts, firsts-distinct}
 use Rattle.reuse.proofs.Stack.{length-reuses}
@@ -18,13 +19,13 @@ use Rattle.reuse.proofs.Words.{reads-summary, first-summary}
 use Rattle.reuse.proofs.Join.{part-law}
 use Rattle.reuse.proofs.Monoid.{empty-summary}
 use Rattle.reuse.proofs.Formed.{summary-well-formed}
+use Rattle.reuse.proofs.Traces.{within-front}
 use Rattle.summary.specs.Calls.{wrote}
 use Rattle.session.specs.Sessions.{fresh}
 use Rattle.after.specs.Calls.{wordOf, afterCall}
 use Rattle.whole.specs.Runs.{accepted, handed, stopped, outcome, Grouping, parts, logOf, grouped, roomy}
 use Rattle.whole.specs.Cuttings.{Cutting, only, andThen, cutParts, Follows, after, endToEnd, cutDistances, cutRoomy}
-use Rattle.whole.specs.Claim.{Within}
-use Rattle.whole.proofs.Groupings.{within-front, log-append, log-one, outcome-wrote, grouping-outcome}
+use Rattle.whole.proofs.Groupings.{log-append, log-one, outcome-wrote, grouping-outcome}
 
 -- the extents of a part after F of its prefix are those of the two end to end
 pub firsts-after : (a b : List ℕ) → firsts (firsts a ++ b) ≡ firsts (a ++ b)

@@ -10,6 +10,7 @@ use borrow.Author.Tests.{eqb-true, eqb-false, ltb-false, lt-ltb, le-ltb}
 use Rattle.reuse.specs.Limits.{maxReads, maxExtents}
 use Rattle.reuse.specs.Lists.{mem, firsts}
 use Rattle.reuse.specs.Lru.{depth, stack, distance}
+use Rattle.reuse.specs.Traces.{Within}
 use Rattle.reuse.proofs.Lists.{by-test, firsts-known, firsts-new}
 use Rattle.session.specs.declared.Session.{Session}
 use Rattle.session.specs.declared.Step.{Step}
@@ -18,7 +19,7 @@ use Rattle.session.specs.Reads.{roomed, readOf}
 use Rattle.session.proofs.Stands.{Stands, fresh-stands}
 use Rattle.session.proofs.Read.{over, read-full, read-many, read-taken, read-stands}
 use Rattle.whole.specs.Runs.{sessionAfter, answersOf, keep, accepted}
-use Rattle.whole.specs.Claim.{seen, declined, seenOf, owed, Within}
+use Rattle.whole.specs.Claim.{seen, declined, seenOf, owed}
 use Rattle.whole.proofs.Calls.{keep-step, tested, calls}
 
 -- a test that is one number past the limit

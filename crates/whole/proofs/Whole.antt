@@ -6,6 +6,7 @@ use mathlib.Core.Bool.{Bool, false, cond}
 use Rattle.reuse.specs.Lru.{reuses, within}
 use Rattle.reuse.specs.Cache.{cacheHits}
 use Rattle.reuse.specs.Summary.{summaryOf}
+use Rattle.reuse.specs.Traces.{Within}
 use Rattle.reuse.proofs.Cache.{cache-law}
 use Rattle.session.specs.declared.Answer.{Answer}
 use Rattle.session.specs.declared.Answer.the-variants.{Cold, Distance, Refused}
@@ -14,10 +15,11 @@ use Rattle.session.proofs.Stands.{fresh-stands}
 use Rattle.after.specs.Calls.{wordOf}
 use Rattle.whole.specs.Runs.{answersOf, sessionAfter, handed, stopped, Grouping, parts, logOf, grouped, roomy}
 use Rattle.whole.specs.Cuttings.{Cutting, cutParts, Follows, cutDistances, cutRoomy}
-use Rattle.whole.specs.Claim.{Seen, seen, declined, seenOf, written, heldBy, Within, Claims, Claim}
+use Rattle.whole.specs.Claim.{Seen, seen, declined, seenOf, written, heldBy, Claims, Claim}
 use Rattle.whole.proofs.Calls.{all-accepted, trace-stands, uncut}
 use Rattle.whole.proofs.Refusals.{calls-owed, no-trace}
 use Rattle.whole.proofs.Groupings.{session-outcome, grouping-outcome}
+use Rattle.whole.proofs.Plans.{plan-outcome}
 use Rattle.whole.proofs.Prefixes.{cutting-outcome}
 
 -- a cache of this size holds the extent, by what was seen
@@ -78,6 +80,7 @@ runs t w = record {
   uncut = uncut t w;
   uncut-summary = λ buffer. session-outcome (sessionAfter fresh t) t buffer (trace-stands t w);
   groupings = groupings t w;
+  plans = plan-outcome t w;
   distances = distances t w;
   caches = caches t w;
 }

@@ -1,8 +1,8 @@
 -- The claim about whole runs (01, 'Demand 3 in full').
-use Prim.Native.Nat.{ℕ, _≤_}
+use Prim.Native.Nat.{ℕ}
 use mathlib.Core.Path.{_≡_}
 use mathlib.Core.List.{List, [], _∷_, _++_, map}
-use mathlib.Core.Bool.{Bool, false, cond}
+use mathlib.Core.Bool.{Bool, false, cond, _&&_}
 use lib.Dec.{leb, ltb}
 use lib.ListN.{length}
 use Rattle.reuse.specs.Limits.{maxReads, maxExtents}
@@ -10,12 +10,17 @@ use Rattle.reuse.specs.Lists.{firsts}
 use Rattle.reuse.specs.Lru.{Reuse, cold, at, reuses, distance}
 use Rattle.reuse.specs.Cache.{cacheHits}
 use Rattle.reuse.specs.Summary.{summaryOf}
+use Rattle.reuse.specs.Traces.{Within}
 use Rattle.after.specs.Calls.{wordOf}
 use Rattle.session.specs.declared.Answer.{Answer}
 use Rattle.session.specs.declared.Answer.the-variants.{Cold, Distance, Refused}
 use Rattle.session.specs.Sessions.{fresh}
 use Rattle.session.specs.Summaries.{summaryCall}
-use Rattle.whole.specs.Runs.{sessionAfter, answersOf, accepted, handed, stopped, outcome, Grouping, parts, logOf, grouped, roomFor, roomy}
+use Rattle.texts.specs.Lines.{got}
+use Rattle.texts.specs.Plans.{Plan, reads as planReads}
+use Rattle.texts.specs.PlanTexts.{planOf}
+use Rattle.plan.specs.Calls.{workWords, runCall}
+use Rattle.whole.specs.Runs.{planned, sessionAfter, answersOf, accepted, handed, stopped, outcome, Grouping, parts, logOf, grouped, roomFor, roomy}
 use Rattle.whole.specs.Cuttings.{Cutting, cutParts, Follows, cutDistances, cutRoomy}
 
 -- a read's answer without its count of sums: a distance or cold, or its refusal
@@ -52,11 +57,6 @@ heldBy c Cold = false
 heldBy c (Distance d n) = leb d c
 heldBy c (Refused n) = false
 
--- a log within the limits
-pub record Within (t : List ℕ) : Type 0 where
-  pub reads : length t ≤ maxReads
-  pub extents : length (firsts t) ≤ maxExtents
-
 -- what holds of every run over the log t
 pub record Claims (t : List ℕ) : Type 0 where
   -- the uncut reading refuses no read
@@ -69,6 +69,9 @@ pub record Claims (t : List ℕ) : Type 0 where
   -- every grouping of every cutting hands over the same words; a call is refused with 6 alone, where its buffer is too short
   pub groupings : (g : Grouping) → logOf (parts g) ≡ t →
       grouped g ≡ cond (roomy g) (handed (summaryOf t)) (stopped 6)
+  -- an accepted plan is a grouping too: its call hands over the same words, or is refused with 6 alone
+  pub plans : (text : List ℕ) (p : Plan) → planOf text ≡ got p → planReads p ≡ length t → (work out : List ℕ) →
+      planned (runCall text t work out) ≡ cond (leb (workWords p) (length work) && roomFor t out) (handed (summaryOf t)) (stopped 6)
   -- the parts' distances, end to end, are what the uncut reading's reads answer
   pub distances : (c : Cutting) → Follows c → logOf (cutParts c) ≡ t →
       cutDistances c ≡ cond (cutRoomy c) (handed (map written (answersOf fresh t))) (stopped 6)

@@ -8,6 +8,7 @@ use Rattle.reuse.specs.Lists.{firsts}
 use Rattle.summary.specs.declared.Written.{Written}
 use Rattle.summary.specs.declared.Written.the-variants.{Words, Refused}
 use Rattle.summary.specs.Calls.{Wrote, joinCall}
+use Rattle.plan.specs.Calls.{Ran}
 use Rattle.session.specs.declared.Session.{Session}
 use Rattle.session.specs.declared.Answer.{Answer}
 use Rattle.session.specs.declared.Answer.the-variants.{Cold, Distance, Refused as NoRead}
@@ -49,6 +50,10 @@ outcomeOf (Refused n) buffer = stopped n
 -- of a call
 abbrev pub outcome : Wrote → Outcome
 outcome w = outcomeOf (w .answer) (w .buffer)
+
+-- of a plan's call
+abbrev pub planned : Ran → Outcome
+planned r = outcomeOf (r .answer) (r .out)
 
 -- a grouping: one part, by its read calls and the buffer lent for its summary; or the join of a grouping of some
 -- first parts, then one of the rest, with the buffer lent for it

@@ -1,0 +1,94 @@
+-- `plan::carry_out` meets its contract.
+use mathlib.Core.Path.{_≡_, sym, ap, subst, _∙_}
+use Prim.Native.Nat.{ℕ, _+_, _*_, _≤_}
+use native.Mathlib.Omega.{arith}
+use lib.ListN.{length}
+use Rattle.reuse.specs.Traces.{Within}
+use Rattle.reuse.specs.Lists.{firsts}
+use Rattle.reuse.proofs.Traces.{extents-exact, extents-within, extents-over}
+use Rattle.texts.proofs.PlanSound.{sound}
+use Rattle.plan.specs.Calls.{Accepted}
+use Rattle.plan.proofs.Carrying.{many-reads, many-extents, work-short, out-short, ready, roomy, run-done}
+use borrow.Author.Needs.{needs}
+use Rattle.plan.proofs.carry_out.Statement.{statement}
+use Rattle.plan.proofs.carry_out.Tie as tie
+
+-- the log is within the limits
+within : (c : tie.Else2) → Within (c .before .before .before .before .before .before .before .args .log .now)
+within c = record { reads = omega arith; extents = extents-within _ _ (c .before .extents-of .ensures) (omega arith) }
+
+-- its extents are counted
+counted : (c : tie.Else2) → c .before .extents-of .result ≡ length (firsts (c .before .before .before .before .before .before .before .args .log .now))
+counted c = extents-exact _ _ (c .before .extents-of .ensures) (within c .extents)
+
+-- the plan is no deeper than the limit
+shallow : (c : tie.Else2) → c .before .before .before .before .before .before .before .args .depth ≤ 8
+shallow c = let a = c .before .before .before .before .before .before .before in let s = sound _ _ (a .pre .read) in omega (arith, s .1 .deep, a .pre .deepens)
+
+cast-if1 : tie.Need-cast-if1
+cast-if1 c = search needs
+
+returns : tie.Need-returns
+returns c = let a = c .before .before .before .before .before in many-reads (a .args .text .now) (a .args .log .now) (a .args .work .now) (a .args .out .now) (a .pre .plan) (a .pre .read) (a .pre .covers) (omega arith)
+
+extents-of-requires : tie.Need-extents-of-requires
+extents-of-requires c κs = search needs
+
+returns-2 : tie.Need-returns-2
+returns-2 c = let a = c .before .before .before .before .before .before .before in many-extents (a .args .text .now) (a .args .log .now) (a .args .work .now) (a .args .out .now) (a .pre .plan) (a .pre .read) (a .pre .covers) (omega arith) (extents-over _ _ (c .before .extents-of .ensures) (omega arith))
+
+mul-levels : tie.Need-mul-levels
+mul-levels c = omega (arith, shallow c)
+
+returns-3 : tie.Need-returns-3
+returns-3 c = let a = c .before .before .before .before .before .before .before .before in work-short (a .args .text .now) (a .args .log .now) (a .args .work .now) (a .args .out .now) (a .pre .plan) (a .pre .read) (a .pre .covers) (within (c .before)) (omega (arith, a .pre .deepens))
+
+mul-if4 : tie.Need-mul-if4
+mul-if4 c = search needs
+
+add-if4 : tie.Need-add-if4
+add-if4 c = search needs
+
+returns-4 : tie.Need-returns-4
+returns-4 c = let a = c .before .before .before .before .before .before .before .before .before in out-short (a .args .text .now) (a .args .log .now) (a .args .work .now) (a .args .out .now) (a .pre .plan) (a .pre .read) (a .pre .covers) (within (c .before .before)) (omega (arith, counted (c .before .before)))
+
+evaluate-requires : tie.Need-evaluate-requires
+evaluate-requires c κs =
+    let a = c .before .before .before .before .before .before .before .before .before .before .before in
+    (ready (a .args .text .now) (a .args .log .now) (a .args .work .now) (a .args .out .now) (a .pre .plan) (a .pre .read) (a .pre .covers) (within (c .before .before .before .before)) (a .args .depth) (a .pre .deepens) (omega arith) (omega (arith, counted (c .before .before .before .before))), roomy (a .args .text .now) (a .args .log .now) (a .args .work .now) (a .args .out .now) (a .pre .plan) (a .pre .read) (a .pre .covers) (within (c .before .before .before .before)) (a .args .depth) (a .pre .deepens) (omega arith) (omega (arith, counted (c .before .before .before .before))))
+
+clear-requires : tie.Need-clear-requires
+clear-requires c κs = search needs
+
+same-length : tie.Need-same-length
+same-length c = search needs
+
+same-length-2 : tie.Need-same-length-2
+same-length-2 c = search needs
+
+returns-5 : tie.Need-returns-5
+returns-5 c =
+    let a = c .before .before .before .before .before .before .before .before .before .before .before .before .before .before .before .before .before .before .before .before in
+    let e = c .before .before .before .before .before .before .before .before .evaluate in
+    run-done (a .args .text .now) (a .args .log .now) (a .args .work .now) (a .args .out .now) (a .pre .plan) (a .pre .read) (a .pre .covers) (within (c .before .before .before .before .before .before .before .before .before .before .before .before .before)) (a .args .depth) (a .pre .deepens) (omega arith) (omega (arith, counted (c .before .before .before .before .before .before .before .before .before .before .before .before .before)))
+    (e .result) (e .last .1 .1 .1 .1 .1 .1 .0) (e .last .1 .1 .1 .1 .1 .1 .1 .0) (c .before .before .clear .last .0)
+    (e .ensures (ready (a .args .text .now) (a .args .log .now) (a .args .work .now) (a .args .out .now) (a .pre .plan) (a .pre .read) (a .pre .covers) (within (c .before .before .before .before .before .before .before .before .before .before .before .before .before)) (a .args .depth) (a .pre .deepens) (omega arith) (omega (arith, counted (c .before .before .before .before .before .before .before .before .before .before .before .before .before))))) (c .before .before .clear .ensures)
+
+pub carry-out-spec : {M : Type 1} → statement M
+carry-out-spec =
+    tie.close
+    (tie.spec
+    cast-if1
+    returns
+    extents-of-requires
+    returns-2
+    mul-levels
+    returns-3
+    mul-if4
+    add-if4
+    returns-4
+    evaluate-requires
+    clear-requires
+    same-length
+    same-length-2
+    returns-5)

@@ -1,0 +1,103 @@
+// Carrying a plan out: a seg is summarized, a join's parts are joined from the inside out, left to right.
+use crate::lines;
+use crate::lines::Line;
+use crate::rows;
+use summary::Written;
+ghost use mathlib.Core.Path.{_≡_};
+ghost use Prim.Native.Nat.{_≤_};
+ghost use lib.ListN.{length, take, drop};
+ghost use Rattle.summary.specs.Calls.{joinCall};
+ghost use Rattle.plan.specs.Calls.{levelWords};
+ghost use Rattle.plan.specs.Evaluation.{countOf, Ready, Roomy, Evaluates, Holdable};
+
+// The words of the largest summary.
+const SUMMARY_WORDS: usize = 2 + 3 * reuse::MAX_EXTENTS;
+
+// The work words of one level of joins: two summaries.
+pub const LEVEL: usize = 2 * SUMMARY_WORDS;
+
+// How far evaluation has come: the position past the form, the brackets after its own, the reads taken, and the words of the summary.
+pub struct Done {
+    pub next: usize,
+    pub closes: usize,
+    pub taken: usize,
+    pub words: usize,
+}
+
+// How many words a call has written.
+fn count_of(answer: Written) -> usize
+    ensures { λ r. ⌜ r ≡ countOf answer ⌝ }
+{
+    match answer {
+        Written::Words(n) => n,
+        Written::Refused(_) => 0,
+    }
+}
+
+// The summary in `out` is joined to the one before it, which the first half of the level's words holds.
+fn join_held(work: &mut [u32], held: usize, out: &mut [u32], words: usize) -> usize
+    requires { ⌜ Holdable (now work) (now out) held words ⌝ }
+    ensures joined { λ r. ⌜ (r ≡ countOf (joinCall (take held (now (work .entry))) (take words (now (out .entry))) (now (out .entry)) .answer)) × (now (out .exit) ≡ joinCall (take held (now (work .entry))) (take words (now (out .entry))) (now (out .entry)) .buffer) ⌝ }
+    ensures kept { λ r. ⌜ drop levelWords (now (work .exit)) ≡ drop levelWords (now (work .entry)) ⌝ }
+{
+    rows::copy(work, SUMMARY_WORDS, &out[..words]);
+    let end = SUMMARY_WORDS + words;
+    let both = &work[..];
+    count_of(summary::join(&both[..held], &both[SUMMARY_WORDS..end], out))
+}
+
+// How far evaluation has come, by its four numbers.
+fn past(next: usize, closes: usize, taken: usize, words: usize) -> Done
+    ensures { λ r. ⌜ r ≡ record { next = next; closes = closes; taken = taken; words = words } ⌝ }
+{
+    Done {
+        next,
+        closes,
+        taken,
+        words,
+    }
+}
+
+// The plan at `at` under `under` joins, on the log's reads from `from` on, with `left` levels of work words.
+pub fn evaluate(
+    s: &[u8],
+    at: usize,
+    under: usize,
+    log: &[u32],
+    from: usize,
+    left: usize,
+    work: &mut [u32],
+    out: &mut [u32],
+) -> Done
+    requires { ⌜ Ready (now s) at under (now log) from left × Roomy (now s) at under (now log) (now work) (now out) left ⌝ }
+    ensures { λ r. ⌜ Evaluates (now (s .entry)) at under (now (log .entry)) from left (now (work .entry)) (now (out .entry)) r (now (work .exit)) (now (out .exit)) ⌝ }
+{
+    let l = lines::line_at(s, at, under);
+    match l {
+        Line::Bad => past(at, 0, from, 0),
+        Line::Seg {
+            reads,
+            closes,
+            next,
+        } => {
+            let end = from + reads as usize;
+            let words = count_of(summary::of_trace(&log[from..end], out));
+            past(next, closes, end, words)
+        }
+        Line::Join { next } => {
+            let inner = under + 1;
+            let below = left - 1;
+            let mut done = evaluate(s, next, inner, log, from, below, &mut work[LEVEL..], out);
+            while done.closes == 0 {
+                let held = done.words;
+                let here = done.next;
+                let taken = done.taken;
+                rows::copy(work, 0, &out[..held]);
+                let part = evaluate(s, here, inner, log, taken, below, &mut work[LEVEL..], out);
+                let words = join_held(work, held, out, part.words);
+                done = past(part.next, part.closes, part.taken, words);
+            }
+            past(done.next, done.closes - 1, done.taken, done.words)
+        }
+    }
+}
