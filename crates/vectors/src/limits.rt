@@ -12,7 +12,7 @@ use crate::words;
 const READS: usize = 400;
 
 // A log of 300 to 599 extents, of which it reads more or fewer than 256.
-fn spread(log: &mut [u32], seed: u64) {
+pub fn spread(log: &mut [u32], seed: u64) {
     let v = std::num::wrapping_add_u32(300, rng::below(seed, 90050, 300));
     for i in 0..log.len() {
         words::put(log, i, rng::name(rng::below(seed, i, v)));
@@ -38,7 +38,7 @@ fn one_extents(seed: u64, count: Count) -> Count {
 }
 
 // The summary of one extent read so often that some reads are left to the limit.
-fn nearly_full(words: &mut [u32], x: u32, left: u32) {
+pub fn nearly_full(words: &mut [u32], x: u32, left: u32) {
     words::put(words, 0, std::num::wrapping_sub_u32(MOST_READS, left));
     words::put(words, 1, 1);
     words::put(words, 2, x);

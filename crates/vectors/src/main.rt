@@ -13,12 +13,14 @@ mod full;
 mod hits;
 mod joined;
 mod limits;
+mod plan_cases;
 mod plan_damage;
 mod plan_limits;
 mod plan_long;
 mod plan_numbers;
 mod plan_reader;
 mod plan_rule;
+mod plan_runs;
 mod plan_text;
 mod plans;
 mod pool;
@@ -88,6 +90,18 @@ fn of_plans() {
     line(b"plans at the limit of bytes", plan_long::run());
 }
 
+// Plans carried out on logs.
+fn of_runs() {
+    line(b"plans carried out", plan_cases::run(300));
+    line(b"plans with short buffers", plan_cases::run_lengths(45));
+    line(b"plans refused", plan_cases::run_damaged(45));
+    line(
+        b"plans at the limit of extents",
+        plan_cases::run_extents(90),
+    );
+    line(b"plans at the limit of reads", plan_cases::run_longest());
+}
+
 // All rows, then all comparisons.
 fn main() {
     rows::all();
@@ -95,4 +109,5 @@ fn main() {
     of_parts();
     of_refusals();
     of_plans();
+    of_runs();
 }

@@ -10,7 +10,7 @@ use crate::words;
 const BYTES: usize = 10;
 
 // Byte k of those that come in: a space, brackets, digits, the end of a line, letters, and 0.
-fn byte_at(k: usize) -> u8 {
+pub fn byte_at(k: usize) -> u8 {
     match k {
         0 => 32,
         1 => 40,

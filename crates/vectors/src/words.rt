@@ -108,6 +108,17 @@ pub fn copy(from: &[u32], to: &mut [u32], at: usize) {
     }
 }
 
+// Whether all words are 0.
+pub fn zero(a: &[u32]) -> bool {
+    let mut all = true;
+    for i in 0..a.len() {
+        if get(a, i) != 0 {
+            all = false;
+        }
+    }
+    all
+}
+
 // A buffer filled with the words of a seed.
 pub fn paint(buffer: &mut [u32], seed: u64) {
     for i in 0..buffer.len() {
