@@ -1,7 +1,9 @@
 // Damaged summaries and damaged sessions, and what the calls answer on them.
 use crate::answers;
 use crate::cache;
+use crate::calls;
 use crate::count::Count;
+use crate::joined;
 use crate::pool::BUFFER;
 use crate::rng;
 use crate::state;
@@ -56,47 +58,26 @@ fn as_told(answer: u32, n: u32, refused: bool) -> bool {
     (answer == answers::refusal(n)) == refused
 }
 
-// A join of a, then b: the answer, and the buffer after it.
-fn try_join<'a>(a: &'a [u32], b: &'a [u32], refused: bool, seed: u64, count: Count) -> Count {
-    let mut buffer = [0u32; BUFFER];
-    words::paint(&mut buffer, seed);
-    let answer = answers::of_written(summary::join(a, b, &mut buffer));
-    let c = count.tally(as_told(answer, 5, refused));
-    c.tally(words::kept(&buffer, answers::past(answer), seed))
-}
-
-// Distances after a prefix: the answer, and the buffer after it.
-fn try_after<'a>(
-    prefix: &'a [u32],
+// Every call on words that are to be well formed or not.
+fn try_words<'a>(
+    words: &'a [u32],
+    good: &'a [u32],
     reads: &'a [u32],
     refused: bool,
     seed: u64,
     count: Count,
 ) -> Count {
-    let mut buffer = [0u32; BUFFER];
-    words::paint(&mut buffer, seed);
-    let answer = answers::of_written(after::distances(prefix, reads, &mut buffer));
-    let c = count.tally(as_told(answer, 5, refused));
-    c.tally(words::kept(&buffer, answers::past(answer), seed))
-}
-
-// Every call on words that are well formed or not.
-fn try_words<'a>(
-    words: &'a [u32],
-    good: &'a [u32],
-    reads: &'a [u32],
-    seed: u64,
-    count: Count,
-) -> Count {
-    let refused = !summary::well_formed(words);
     let size = cache::size_at(rng::below(seed, 90021, 16) as usize);
     let misses = answers::of_misses(summary::misses(words, size));
     let share = answers::of_share(summary::share(words, size));
+    let before = joined::unless(refused, 5, joined::join_answer(words, good));
+    let behind = joined::unless(refused, 5, joined::join_answer(good, words));
+    let part = joined::unless(refused, 5, joined::after_answer(words, reads));
     let a = count.tally(as_told(misses, 5, refused));
     let b = a.tally(as_told(share, 5, refused));
-    let c = try_join(words, good, refused, seed, b);
-    let d = try_join(good, words, refused, seed, c);
-    try_after(words, reads, refused, seed, d)
+    let c = calls::join(words, good, before, seed, b);
+    let d = calls::join(good, words, behind, seed, c);
+    calls::after(words, reads, part, seed, d)
 }
 
 // One damaged summary; it is counted where it is well formed as asked.
@@ -115,8 +96,9 @@ fn one_summary(seed: u64, formed: bool, count: Count) -> Count {
         return count;
     }
     let whole = words::front(&good, n);
-    let c = count.tally(to_be_formed(whole, harmed) == formed);
-    try_words(harmed, whole, reads, seed, c)
+    let told = to_be_formed(whole, harmed);
+    let c = count.tally(told == formed);
+    try_words(harmed, whole, reads, !told, seed, c)
 }
 
 // So many damaged summaries: those that are still well formed, or those that are not.

@@ -10,7 +10,7 @@ const READS: usize = 300;
 
 // Whether x is among the first n words.
 pub fn knows(known: &[u32; 256], n: u32, x: u32) -> bool {
-    reuse::contains(words::front(known, n), x)
+    words::has(words::front(known, n), x)
 }
 
 // The number of extents known after a call of x, with n of them before: x is put to them where it is new and there is room.
@@ -25,8 +25,21 @@ pub fn learn(known: &mut [u32; 256], n: u32, x: u32) -> u32 {
     n
 }
 
+// Whether a log has at most 256 different extents.
+pub fn fits(log: &[u32]) -> bool {
+    let mut known = [0u32; 256];
+    let mut n: u32 = 0;
+    let mut all = true;
+    for i in 0..log.len() {
+        let x = words::get(log, i);
+        n = learn(&mut known, n, x);
+        all = all && knows(&known, n, x);
+    }
+    all
+}
+
 // The different extents of a log by first read, at the front of `out`; their number is answered.
-fn firsts(log: &[u32], out: &mut [u32; 256]) -> u32 {
+pub fn firsts(log: &[u32], out: &mut [u32; 256]) -> u32 {
     let mut n: u32 = 0;
     for i in 0..log.len() {
         n = learn(out, n, words::get(log, i));
@@ -41,13 +54,17 @@ fn turned(log: &[u32], out: &mut [u32]) {
     }
 }
 
-// The number of words of a log's summary: all misses of a cache that never is full are first reads.
-pub fn length_of(log: &[u32]) -> u32 {
-    let v = std::num::wrapping_sub_u32(words::narrow(log.len()), cache::hits(log, 4294967295));
+// The number of words of a summary of v extents, or 0 where there is none.
+pub fn words_of(v: u32) -> u32 {
     if v <= 256 {
         return 2 + 3 * v;
     }
     0
+}
+
+// The number of words of a log's summary: all misses of a cache that never is full are first reads.
+pub fn length_of(log: &[u32]) -> u32 {
+    words_of(std::num::wrapping_sub_u32(words::narrow(log.len()), cache::hits(log, 4294967295)))
 }
 
 // The words that count distances 1 to v: as many reads as the cache of this size hits and the next smaller does not.
@@ -62,7 +79,7 @@ fn counts(row: &[u32], log: &[u32], v: u32, count: Count) -> Count {
 }
 
 // Row k of a summary of v extents: F, R and H are 0, 1 and 2.
-fn row<'a>(summary: &'a [u32], k: usize, v: u32) -> &'a [u32] {
+pub fn row<'a>(summary: &'a [u32], k: usize, v: u32) -> &'a [u32] {
     let mut from: usize = 2;
     for i in 0..k {
         from = words::plus(from, v as usize);
@@ -71,7 +88,7 @@ fn row<'a>(summary: &'a [u32], k: usize, v: u32) -> &'a [u32] {
 }
 
 // A row of a summary against the first v extents of a list.
-fn listed<'a>(row: &'a [u32], list: &'a [u32; 256], v: u32, count: Count) -> Count {
+pub fn listed<'a>(row: &'a [u32], list: &'a [u32; 256], v: u32, count: Count) -> Count {
     words::compare(row, words::front(list, v), count)
 }
 

@@ -4,18 +4,31 @@ use libc::STDOUT_FILENO;
 
 mod answers;
 mod cache;
+mod calls;
 mod count;
 mod cutting;
 mod damage;
 mod direct;
 mod full;
 mod hits;
+mod joined;
 mod limits;
+mod plan_cases;
+mod plan_damage;
+mod plan_limits;
+mod plan_long;
+mod plan_numbers;
+mod plan_reader;
+mod plan_rule;
+mod plan_runs;
+mod plan_text;
+mod plans;
 mod pool;
 mod rng;
 mod rows;
 mod short;
 mod state;
+mod text;
 mod watches;
 mod words;
 
@@ -67,10 +80,34 @@ fn of_refusals() {
     line(b"limits of joins and parts", limits::run(300));
 }
 
+// Plan texts read by the library and by a second reader.
+fn of_plans() {
+    line(b"plans", plans::run(300));
+    line(b"plans, cut", plans::run_cut(45));
+    line(b"plans, damaged", plans::run_damaged(45));
+    line(b"plans at the limits of joins", plan_limits::run());
+    line(b"plans with other numbers", plan_numbers::run());
+    line(b"plans at the limit of bytes", plan_long::run());
+}
+
+// Plans carried out on logs.
+fn of_runs() {
+    line(b"plans carried out", plan_cases::run(300));
+    line(b"plans with short buffers", plan_cases::run_lengths(45));
+    line(b"plans refused", plan_cases::run_damaged(45));
+    line(
+        b"plans at the limit of extents",
+        plan_cases::run_extents(90),
+    );
+    line(b"plans at the limit of reads", plan_cases::run_longest());
+}
+
 // All rows, then all comparisons.
 fn main() {
     rows::all();
     against_caches();
     of_parts();
     of_refusals();
+    of_plans();
+    of_runs();
 }

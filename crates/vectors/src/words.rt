@@ -59,6 +59,17 @@ pub fn same(a: &[u32], b: &[u32]) -> bool {
     all
 }
 
+// Whether x is one of the words.
+pub fn has(a: &[u32], x: u32) -> bool {
+    let mut found = false;
+    for i in 0..a.len() {
+        if get(a, i) == x {
+            found = true;
+        }
+    }
+    found
+}
+
 // The first index at which two slices of one length differ, or the length.
 pub fn first_difference(a: &[u32], b: &[u32]) -> usize {
     let mut k = a.len();
@@ -95,6 +106,17 @@ pub fn copy(from: &[u32], to: &mut [u32], at: usize) {
     for i in 0..from.len() {
         put(to, plus(at, i), get(from, i));
     }
+}
+
+// Whether all words are 0.
+pub fn zero(a: &[u32]) -> bool {
+    let mut all = true;
+    for i in 0..a.len() {
+        if get(a, i) != 0 {
+            all = false;
+        }
+    }
+    all
 }
 
 // A buffer filled with the words of a seed.

@@ -1,14 +1,14 @@
--- `vectors::limits::fits` is safe and ends.
+-- `vectors::text::same` is safe and ends.
 use Prim.Native.Nat.{_-_}
 use borrow.Author.Needs.{needs}
-use Rattle.vectors.proofs.limits.fits.Statement.{statement}
-use Rattle.vectors.proofs.limits.fits.Tie as tie
+use Rattle.vectors.proofs.text.same.Statement.{statement}
+use Rattle.vectors.proofs.text.same.Tie as tie
 
 abbrev Inv-loop : tie.InvT-loop
-Inv-loop log known₀ n₀ all₀ i₀ i-end known n all i = Unit {0}
+Inv-loop a b all₀ i₀ i-end all i = Unit {0}
 
 abbrev μ-loop : tie.MeasureT-loop
-μ-loop log known₀ n₀ all₀ i₀ i-end known n all i = i-end - i
+μ-loop a b all₀ i₀ i-end all i = i-end - i
 
 loop-holds : tie.Need-loop-holds Inv-loop μ-loop
 loop-holds c = search needs
@@ -16,11 +16,8 @@ loop-holds c = search needs
 get-requires : tie.Need-get-requires Inv-loop μ-loop
 get-requires c κs = search needs
 
-learn-requires : tie.Need-learn-requires Inv-loop μ-loop
-learn-requires c κs = search needs
-
-knows-requires : tie.Need-knows-requires Inv-loop μ-loop
-knows-requires c κs = search needs
+get-requires-2 : tie.Need-get-requires-2 Inv-loop μ-loop
+get-requires-2 c κs = search needs
 
 add-i : tie.Need-add-i Inv-loop μ-loop
 add-i c = search needs
@@ -34,16 +31,15 @@ loop-again c = search needs
 returns : tie.Need-returns Inv-loop μ-loop
 returns c = search needs
 
-pub fits-spec : {M : Type 1} → statement M
-fits-spec =
+pub same-spec : {M : Type 1} → statement M
+same-spec =
     tie.close
     (tie.spec
     Inv-loop
     μ-loop
     loop-holds
     get-requires
-    learn-requires
-    knows-requires
+    get-requires-2
     add-i
     loop-less
     loop-again

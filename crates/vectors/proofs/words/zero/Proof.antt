@@ -1,0 +1,42 @@
+-- `vectors::words::zero` is safe and ends.
+use Prim.Native.Nat.{_-_}
+use borrow.Author.Needs.{needs}
+use Rattle.vectors.proofs.words.zero.Statement.{statement}
+use Rattle.vectors.proofs.words.zero.Tie as tie
+
+abbrev Inv-loop : tie.InvT-loop
+Inv-loop a all₀ i₀ i-end all i = Unit {0}
+
+abbrev μ-loop : tie.MeasureT-loop
+μ-loop a all₀ i₀ i-end all i = i-end - i
+
+loop-holds : tie.Need-loop-holds Inv-loop μ-loop
+loop-holds c = search needs
+
+get-requires : tie.Need-get-requires Inv-loop μ-loop
+get-requires c κs = search needs
+
+add-i : tie.Need-add-i Inv-loop μ-loop
+add-i c = search needs
+
+loop-less : tie.Need-loop-less Inv-loop μ-loop
+loop-less c = search needs
+
+loop-again : tie.Need-loop-again Inv-loop μ-loop
+loop-again c = search needs
+
+returns : tie.Need-returns Inv-loop μ-loop
+returns c = search needs
+
+pub zero-spec : {M : Type 1} → statement M
+zero-spec =
+    tie.close
+    (tie.spec
+    Inv-loop
+    μ-loop
+    loop-holds
+    get-requires
+    add-i
+    loop-less
+    loop-again
+    returns)
