@@ -120,6 +120,30 @@ fn one(seed: u64, count: Count) -> Count {
     defined(words::front(&buffer, n), reads, c)
 }
 
+// One log's summary in one call, and the number of its extents.
+fn one_call(seed: u64, count: Count) -> Count {
+    let mut log = [0u32; READS];
+    let mut buffer = [0u32; BUFFER];
+    rng::fill(&mut log, seed, rng::variety(seed));
+    words::paint(&mut buffer, seed);
+    let reads = words::front(&log, rng::below(seed, 90040, 301));
+    let n = answers::of_written(summary::of_trace(reads, &mut buffer));
+    let v = words::narrow(reuse::extents_of(reads));
+    let a = count.tally(n == length_of(reads));
+    let b = a.tally(v == words::get(&buffer, 1));
+    let c = b.tally(words::kept(&buffer, answers::past(n), seed));
+    defined(words::front(&buffer, n), reads, c)
+}
+
+// Summaries of so many logs, in one call each.
+pub fn run_calls(logs: usize) -> Count {
+    let mut c = Count::none();
+    for i in 0..logs {
+        c = one_call(rng::seed(24, i), c);
+    }
+    c
+}
+
 // Summaries of so many logs.
 pub fn run(logs: usize) -> Count {
     let mut c = Count::none();

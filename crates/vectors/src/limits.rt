@@ -1,4 +1,4 @@
-// Joins and parts after prefixes at the limits of reads and of extents.
+// Joins, summaries and parts after prefixes at the limits of reads and of extents.
 use crate::answers;
 use crate::calls;
 use crate::count::Count;
@@ -25,16 +25,19 @@ fn one_extents(seed: u64, count: Count) -> Count {
     let mut a = [0u32; BUFFER];
     let mut b = [0u32; BUFFER];
     spread(&mut log, seed);
+    let whole = words::front(&log, 400);
     let part = words::span(&log, 200, 400);
     let first = answers::session_of(words::front(&log, 200));
     let second = answers::session_of(part);
     let n = answers::of_written(first.summary(&mut a));
     let m = answers::of_written(second.summary(&mut b));
-    let over = !direct::fits(&log);
+    let over = !direct::fits(whole);
     let prefix = words::front(&a, n);
-    let answer = joined::unless(over, 9, direct::length_of(&log));
+    let answer = joined::unless(over, 9, direct::length_of(whole));
     let c = calls::join(prefix, words::front(&b, m), answer, seed, count);
-    calls::after(prefix, part, joined::unless(over, 9, 200), seed, c)
+    let d = calls::of_trace(whole, answer, seed, c);
+    let e = d.tally((256 < reuse::extents_of(whole)) == over);
+    calls::after(prefix, part, joined::unless(over, 9, 200), seed, e)
 }
 
 // The summary of one extent read so often that some reads are left to the limit.

@@ -53,6 +53,7 @@ fn against_caches() {
 // Cuttings, and parts after prefixes.
 fn of_parts() {
     line(b"summaries by definition", direct::run(60));
+    line(b"summaries in one call", direct::run_calls(60));
     line(b"groupings of parts", cutting::run_groupings(200));
     line(b"parts after prefixes", cutting::run_after(200));
     line(b"parts with refused reads", full::run(12));
