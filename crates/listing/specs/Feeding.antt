@@ -1,0 +1,63 @@
+-- A log text taken in pieces by tallies: what each line does, and what the end gives.
+use Prim.Native.Nat.{ℕ, zero, suc}
+use mathlib.Core.List.{List, [], _∷_}
+use mathlib.Core.Bool.{Bool, cond}
+use mathlib.Core.Option.{Option, none, some}
+use lib.Dec.{eqb}
+use lib.ListN.{length}
+use Rattle.texts.specs.Words.{after}
+use Rattle.texts.specs.Lines.{Answer, to, no, Fed, at, stopped, Read, got, refused, unless, feedBy, finishBy}
+use Rattle.texts.specs.Logs.{traceWord, Row, row, badRow, rowOf, logRoom}
+use Rattle.listing.specs.Tallies.{Tally, noReads, tallied, overTally, missesIn}
+use Rattle.listing.specs.Listings.{listed, refusedText}
+
+-- nothing read yet; the reads so far; the whole trace
+pub data Taken : Type 0 where
+  empty : Taken
+  inside : Tally → Taken
+  whole : Tally → Taken
+
+-- the reads so far, or the whole trace where the text ends
+abbrev pub taken : Bool → Tally → Taken
+taken ends t = cond ends (whole t) (inside t)
+
+-- what a read's line does
+unfoldable pub takeRow : Tally → Row → Answer Taken
+takeRow t badRow = no 1
+takeRow t (row x ends) = unless (overTally t x) (to (taken ends (tallied t x)))
+
+-- the first line: `(trace`, or `(trace)`
+unfoldable pub takeHead : Option (List ℕ) → Answer Taken
+takeHead none = no 1
+takeHead (some []) = to (inside noReads)
+takeHead (some (x ∷ [])) = cond (eqb x 41) (to (whole noReads)) (no 1)
+takeHead (some (x ∷ y ∷ l)) = no 1
+
+-- what a line does: nothing may follow the whole trace
+unfoldable pub takeLine : Taken → List ℕ → Answer Taken
+takeLine empty line = takeHead (after traceWord line)
+takeLine (inside t) line = takeRow t (rowOf line)
+takeLine (whole t) line = no 1
+
+-- a text taken so far
+abbrev pub State : Type 0
+State = Fed Taken
+
+-- one piece more
+unfoldable pub takePiece : State → List ℕ → State
+takePiece s l = feedBy takeLine logRoom s l
+
+-- what is taken whole
+abbrev pub takenWhole : Taken → Option Tally
+takenWhole empty = none
+takenWhole (inside t) = none
+takenWhole (whole t) = some t
+
+-- by the answer at the end: the whole output
+abbrev pub printedBy : Read Tally → List ℕ
+printedBy (got t) = listed (t .reads) (length (t .recent)) (missesIn t)
+printedBy (refused line n) = refusedText n
+
+-- the whole output at the end of the text
+unfoldable pub printedAt : State → List ℕ
+printedAt s = printedBy (finishBy takenWhole s)
