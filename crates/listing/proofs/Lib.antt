@@ -1,0 +1,4 @@
+pub mod Tallies
+pub mod Refining
+pub mod Listings
+pub mod Examples
