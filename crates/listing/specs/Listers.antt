@@ -9,10 +9,11 @@ use lib.ListN.{length, take, drop}
 use Rattle.reuse.specs.Limits.{maxReads, maxExtents}
 use Rattle.reuse.specs.Lists.{distinct, sum}
 use Rattle.texts.specs.Lines.{Answer, to, no, Fed, at, stopped}
-use Rattle.texts.specs.Logs.{row, badRow, longestLine}
+use Rattle.texts.specs.Words.{after}
+use Rattle.texts.specs.Logs.{traceWord, row, badRow, longestLine}
 use Rattle.texts.specs.Logs.{Row as LogRow}
 use Rattle.listing.specs.Tallies.{Tally}
-use Rattle.listing.specs.Feeding.{Taken, empty, inside, whole, takeLine, State, takePiece}
+use Rattle.listing.specs.Feeding.{Taken, empty, inside, whole, takeHead, takeLine, State, takePiece}
 use Rattle.listing.specs.declared.lines.Row.{Row}
 use Rattle.listing.specs.declared.lines.Row.the-variants.{Read, Bad}
 use Rattle.listing.specs.declared.lines.Head.{Head}
@@ -63,6 +64,14 @@ takenBy (Stopped n) t = no n
 -- of a progress and its rows
 abbrev pub takenIn : Progress → List ℕ → List ℕ → Answer Taken
 takenIn p stack counts = takenBy (p .phase) (tallyIn (p .reads) (p .extents) stack counts)
+
+-- the first line does what the definition says, whatever stands in the rows
+abbrev pub HeadTaken : List ℕ → Progress → Type 0
+HeadTaken line p = (stack counts : List ℕ) → takenIn p stack counts ≡ takeHead (after traceWord line)
+
+-- and rows that held a tally hold one
+abbrev pub HeadKept : ℕ → ℕ → Progress → Type 0
+HeadKept reads extents p = (stack counts : List ℕ) → Tallied reads extents stack counts → Tallied (p .reads) (p .extents) stack counts
 
 -- a line after that: nothing where the text is refused
 abbrev pub andThen : Answer Taken → List ℕ → Answer Taken

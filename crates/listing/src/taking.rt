@@ -7,7 +7,7 @@ ghost use mathlib.Core.Path.{_≡_};
 ghost use mathlib.Core.Bool.{cond};
 ghost use Rattle.texts.specs.Logs.{row};
 ghost use Rattle.listing.specs.Feeding.{takeRow};
-ghost use Rattle.listing.specs.Listers.{Tallied, tallyIn, takenBy, takenIn, andThen};
+ghost use Rattle.listing.specs.Listers.{Tallied, HeadTaken, HeadKept, tallyIn, takenBy, takenIn, andThen};
 ghost use Rattle.listing.specs.declared.taking.Phase.the-variants.{Inside, Whole, Stopped};
 
 // The largest extent.
@@ -93,7 +93,10 @@ fn take_row(
 }
 
 // The first line is taken.
-fn take_head(line: &[u8], reads: u32, extents: usize) -> Progress {
+fn take_head(line: &[u8], reads: u32, extents: usize) -> Progress
+    ensures is { λ r. ⌜ HeadTaken (now (line .entry)) r ⌝ }
+    ensures kept { λ r. ⌜ HeadKept reads extents r ⌝ }
+{
     let head = lines::head_of(line);
     match head {
         Head::Open => gone_on(false, 0, 0),
