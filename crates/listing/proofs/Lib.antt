@@ -2,3 +2,4 @@ pub mod Tallies
 pub mod Refining
 pub mod Listings
 pub mod Examples
+pub mod LineLaws
