@@ -4,3 +4,4 @@ pub mod Listings
 pub mod Examples
 pub mod TallyRows
 pub mod Phases
+pub mod LineLaws

@@ -1,50 +1,66 @@
+-- `listing::rows::line_length` meets its contract. The invariant: the bytes from the start are those left and those passed.
+use Prim.Native.Nat.{ℕ, _+_, _-_, _≤_}
+use mathlib.Core.Path.{_≡_, ap, _∙_}
+use native.Mathlib.Nat.{add-zero, sub-zero}
+use native.Mathlib.Omega.{arith}
+use lib.ListN.{length, drop}
+use Rattle.listing.specs.Listers.{lineLength}
+use Rattle.listing.proofs.LineLaws.{length-done, length-end, length-stop, length-more}
 use borrow.Author.Needs.{needs}
 use Rattle.listing.proofs.rows.line_length.Statement.{statement}
 use Rattle.listing.proofs.rows.line_length.Tie as tie
-use Rattle.listing.proofs.rows.line_length.Reads as reads
-use Rattle.listing.proofs.rows.line_length.Lts as lts
 
 abbrev Inv-loop : tie.InvT-loop
-Inv-loop s at most n₀ n = ?
+Inv-loop s at most n₀ n = (at + n ≤ length s) × (n ≤ most) × (lineLength most (drop at s) ≡ lineLength (most - n) (drop (at + n) s) + n)
 
 abbrev μ-loop : tie.MeasureT-loop
-μ-loop s at most n₀ n = ?
+μ-loop s at most n₀ n = most - n
 
--- src/rows.rt:14:5
 loop-holds : tie.Need-loop-holds Inv-loop μ-loop
-loop-holds c = ?
+loop-holds c = (omega (arith, c .pre), search needs, simp (add-zero, sub-zero))
 
--- src/rows.rt:15:17
 add-i : tie.Need-add-i Inv-loop μ-loop
-add-i c = ?
+add-i c = search needs
 
--- src/rows.rt:17:13
 returns : tie.Need-returns Inv-loop μ-loop
-returns c = ?
+returns c =
+    let a = c .before .before .before .args in
+    let l = c .before .before .loop in
+    let z = length-end (a .s .now) (a .at + l .n) (a .most - l .n) (c .if1 .taken) in
+    omega (arith, l .inv .2, z)
 
--- src/rows.rt:19:12
 shared-slice-read-if2 : tie.Need-shared-slice-read-if2 Inv-loop μ-loop
-shared-slice-read-if2 c = ?
+shared-slice-read-if2 c = search needs
 
--- src/rows.rt:20:13
 returns-2 : tie.Need-returns-2 Inv-loop μ-loop
-returns-2 c = ?
+returns-2 c =
+    let a = c .before .before .before .before .before .args in
+    let l = c .before .before .before .before .loop in
+    let z = length-stop (a .s .now) (a .at + l .n) (a .most - l .n) (c .before .before .if1 .left) (c .if2 .taken) in
+    omega (arith, l .inv .2, z)
 
--- src/rows.rt:22:9
 add-n : tie.Need-add-n Inv-loop μ-loop
-add-n c = ?
+add-n c = search needs
 
--- src/rows.rt:14:5
 loop-less : tie.Need-loop-less Inv-loop μ-loop
-loop-less c = ?
+loop-less c = search needs
 
--- src/rows.rt:14:5
 loop-again : tie.Need-loop-again Inv-loop μ-loop
-loop-again c = ?
+loop-again c =
+    let a = c .before .before .before .before .before .args in
+    let l = c .before .before .before .before .loop in
+    let z = length-more (a .s .now) (a .at + l .n) (a .most - l .n) (c .before .before .if1 .left) (c .if2 .left) (omega arith) in
+    let u : a .most - l .n - 1 ≡ a .most - (l .n + 1) = omega arith in
+    let v : a .at + l .n + 1 ≡ a .at + (l .n + 1) = omega arith in
+    let w = ap (λ (j : ℕ). lineLength j (drop (a .at + l .n + 1) (a .s .now))) u ∙ ap (λ (j : ℕ). lineLength (a .most - (l .n + 1)) (drop j (a .s .now))) v in
+    (search needs, search needs, omega (arith, l .inv .2, z, w))
 
--- src/rows.rt:9:1
 returns-3 : tie.Need-returns-3 Inv-loop μ-loop
-returns-3 c = ?
+returns-3 c =
+    let a = c .before .before .args in
+    let l = c .before .loop in
+    let z = length-done (a .most - l .n) (drop (a .at + l .n) (a .s .now)) (omega arith) in
+    omega (arith, l .inv .2, z)
 
 pub line-length-spec : {M : Type 1} → statement M
 line-length-spec =
