@@ -1,8 +1,8 @@
 -- Listers: what the words of one stand for, and when they stand for anything.
 use mathlib.Core.Path.{_≡_}
-use Prim.Native.Nat.{ℕ, zero, suc, _+_, _≤_, _<_}
+use Prim.Native.Nat.{ℕ, zero, suc, _+_, _-_, _≤_, _<_}
 use mathlib.Core.List.{List, [], _∷_}
-use mathlib.Core.Bool.{Bool, true, cond, _&&_}
+use mathlib.Core.Bool.{Bool, true, false, cond, _&&_}
 use mathlib.Core.Option.{Option, none, some}
 use lib.Dec.{eqb, leb}
 use lib.ListN.{length, take, drop}
@@ -21,6 +21,7 @@ use Rattle.listing.specs.declared.lines.Head.the-variants.{Open, Closed,
 use Rattle.listing.specs.declared.taking.Phase.{Phase}
 use Rattle.listing.specs.declared.taking.Phase.the-variants.{Empty, Inside, Whole, Stopped}
 use Rattle.listing.specs.declared.taking.Progress.{Progress}
+use Rattle.listing.specs.declared.turning.Turn.{Turn}
 use Rattle.listing.specs.declared.Lister.{Lister}
 
 -- a read's line as the code answers it
@@ -101,3 +102,39 @@ soundLister l =
 unfoldable pub stateOf : Lister → State
 stateOf l =
     cond (soundLister l) (stateBy (takenBy (l .phase) (tallyIn (l .reads) (l .extents) (l .stack) (l .counts))) (take (l .held) (l .line))) (stopped 0 7)
+
+-- a text that is refused
+abbrev pub isStopped : Phase → Bool
+isStopped Empty = false
+isStopped Inside = false
+isStopped Whole = false
+isStopped (Stopped n) = true
+
+-- the state of a phase, a tally in its rows and the bytes held
+abbrev pub stateIn : Phase → ℕ → ℕ → List ℕ → List ℕ → List ℕ → State
+stateIn phase reads extents stack counts held = stateBy (takenBy phase (tallyIn reads extents stack counts)) held
+
+-- a line of a piece that ends: its bytes stand in the piece, and fit behind those held
+pub record Ending (bytes : List ℕ) (at end : ℕ) (line : List ℕ) (held reads extents : ℕ) (stack counts : List ℕ) : Type 0 where
+  pub order : at ≤ end
+  pub inside : end ≤ length bytes
+  pub fits : held + (end - at) ≤ length line
+  pub tally : Tallied reads extents stack counts
+
+-- a piece can be taken further: the text is not refused, and what is held of a line fits
+pub record Turnable (bytes : List ℕ) (at : ℕ) (line : List ℕ) (held : ℕ) (phase : Phase) (reads extents : ℕ) (stack counts : List ℕ) : Type 0 where
+  pub more : at < length bytes
+  pub wide : length line ≡ longestLine
+  pub fits : held ≤ longestLine
+  pub tally : Tallied reads extents stack counts
+  pub goes : isStopped phase ≡ false
+
+-- it was taken further from a state: what is left of it does the same from the state reached
+pub record Turned (bytes : List ℕ) (from : ℕ) (before : State) (r : Turn) (line stack counts : List ℕ) : Type 0 where
+  pub forward : from < r .at
+  pub inside : r .at ≤ length bytes
+  pub fits : r .held ≤ longestLine
+  pub tally : Tallied (r .reads) (r .extents) stack counts
+  pub goes : r .at < length bytes → isStopped (r .phase) ≡ false
+  pub same : unnumbered (takePiece before (drop from bytes))
+      ≡ unnumbered (takePiece (stateIn (r .phase) (r .reads) (r .extents) stack counts (take (r .held) line)) (drop (r .at) bytes))

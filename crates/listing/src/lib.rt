@@ -2,17 +2,14 @@
 mod lines;
 mod rows;
 mod taking;
+mod turning;
 
 use taking::Phase;
-use taking::Progress;
 ghost use mathlib.Core.Path.{_≡_};
 ghost use mathlib.Core.List.{[]};
 ghost use Rattle.texts.specs.Lines.{at};
 ghost use Rattle.listing.specs.Feeding.{empty, takePiece};
 ghost use Rattle.listing.specs.Listers.{soundLister, stateOf, unnumbered};
-
-// The bytes of the longest line.
-const LONGEST: usize = 19;
 
 // A log text taken so far: what is held of a line that has not ended, how far the text is, and the tally of its reads.
 pub struct Lister {

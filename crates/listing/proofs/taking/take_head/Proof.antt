@@ -1,51 +1,39 @@
+-- `listing::taking::take_head` meets its contract.
+use mathlib.Core.Path.{_≡_, sym, _∙_}
+use Rattle.listing.proofs.Phases.{head-begun, head-ended, head-refused}
 use borrow.Author.Needs.{needs}
 use Rattle.listing.proofs.taking.take_head.Statement.{statement}
 use Rattle.listing.proofs.taking.take_head.Tie as tie
-use Rattle.listing.proofs.taking.take_head.Reads as reads
-use Rattle.listing.proofs.taking.take_head.Lts as lts
-use Rattle.listing.proofs.lines.head_of.Reads as head-of-reads
-use Rattle.listing.proofs.taking.gone_on.Reads as gone-on-reads
-use Rattle.listing.proofs.taking.refused.Reads as refused-reads
 
--- src/taking.rt:100:9
 head-of-requires : tie.Need-head-of-requires
 head-of-requires c κs = search needs
 
--- src/taking.rt:102:23
 enum-told : tie.Need-enum-told
 enum-told c = search needs
 
--- src/taking.rt:102:23
 gone-on-requires : tie.Need-gone-on-requires
 gone-on-requires c κs = search needs
 
--- src/taking.rt:103:25
 enum-told-2 : tie.Need-enum-told-2
 enum-told-2 c = search needs
 
--- src/taking.rt:103:25
 gone-on-requires-2 : tie.Need-gone-on-requires-2
 gone-on-requires-2 c κs = search needs
 
--- src/taking.rt:104:22
 enum-told-3 : tie.Need-enum-told-3
 enum-told-3 c = search needs
 
--- src/taking.rt:104:22
 refused-requires : tie.Need-refused-requires
 refused-requires c κs = search needs
 
--- src/taking.rt:96:1
 returns : tie.Need-returns
-returns c = ?
+returns c = let a = c .before .before .before .before .before in head-begun (a .args .line .now) (a .args .reads) (a .args .extents) (c .gone-on .result) (sym (c .before .enum-told .given .1) ∙ c .before .before .before .head-of .ensures) (c .gone-on .ensures)
 
--- src/taking.rt:96:1
 returns-2 : tie.Need-returns-2
-returns-2 c = ?
+returns-2 c = let a = c .before .before .before .before .before in head-ended (a .args .line .now) (a .args .reads) (a .args .extents) (c .gone-on2 .result) (sym (c .before .enum-told2 .given .1) ∙ c .before .before .before .head-of .ensures) (c .gone-on2 .ensures)
 
--- src/taking.rt:96:1
 returns-3 : tie.Need-returns-3
-returns-3 c = ?
+returns-3 c = let a = c .before .before .before .before .before in head-refused (a .args .line .now) (a .args .reads) (a .args .extents) (c .refused .result) (sym (c .before .enum-told3 .given .1) ∙ c .before .before .before .head-of .ensures) (c .refused .ensures)
 
 pub take-head-spec : {M : Type 1} → statement M
 take-head-spec =

@@ -1,88 +1,79 @@
+-- `listing::taking::take_line` meets its contract.
+use mathlib.Core.Path.{_≡_, sym, ap, _∙_}
+use Rattle.listing.proofs.Phases.{at-head, at-bad, at-row, at-end, at-stop}
 use borrow.Author.Needs.{needs}
 use Rattle.listing.proofs.taking.take_line.Statement.{statement}
 use Rattle.listing.proofs.taking.take_line.Tie as tie
-use Rattle.listing.proofs.taking.take_line.Reads as reads
-use Rattle.listing.proofs.taking.take_line.Lts as lts
-use Rattle.listing.proofs.lines.row_of.Reads as row-of-reads
-use Rattle.listing.proofs.taking.refused.Reads as refused-reads
-use Rattle.listing.proofs.taking.take_head.Reads as take-head-reads
-use Rattle.listing.proofs.taking.take_row.Reads as take-row-reads
 
--- src/taking.rt:119:25
 enum-told : tie.Need-enum-told
 enum-told c = search needs
 
--- src/taking.rt:119:25
 take-head-requires : tie.Need-take-head-requires
 take-head-requires c κs = search needs
 
--- src/taking.rt:121:38
 enum-told-2 : tie.Need-enum-told-2
 enum-told-2 c = search needs
 
--- src/taking.rt:121:38
 row-of-requires : tie.Need-row-of-requires
 row-of-requires c κs = search needs
 
--- src/taking.rt:121:27
 enum-known-x : tie.Need-enum-known-x
 enum-known-x c = search needs
 
--- src/taking.rt:122:17
 enum-told-3 : tie.Need-enum-told-3
 enum-told-3 c = search needs
 
--- src/taking.rt:122:17
 refused-requires : tie.Need-refused-requires
 refused-requires c κs = search needs
 
--- src/taking.rt:122:17
 returns : tie.Need-returns
-returns c = ?
+returns c =
+    let a = c .before .before .before .before .before .before .before .before .before in
+    at-bad (a .args .line .now) (a .args .phase) (a .args .reads) (a .args .extents) (a .args .stack .now) (a .args .counts .now) (a .pre) (c .before .before .before .before .enum-told2 .given .1) (sym (c .before .enum-told3 .given .1) ∙ c .before .before .before .row-of .ensures) (c .refused .result) (c .refused .ensures)
 
--- src/taking.rt:124:13
 take-row-requires : tie.Need-take-row-requires
 take-row-requires c κs = search needs
 
--- src/taking.rt:126:25
 enum-told-4 : tie.Need-enum-told-4
 enum-told-4 c = search needs
 
--- src/taking.rt:126:25
 refused-requires-2 : tie.Need-refused-requires-2
 refused-requires-2 c κs = search needs
 
--- src/taking.rt:127:24
 enum-known-phase : tie.Need-enum-known-phase
 enum-known-phase c = search needs
 
--- src/taking.rt:127:30
 refused-requires-3 : tie.Need-refused-requires-3
 refused-requires-3 c κs = search needs
 
--- src/taking.rt:106:1
 returns-2 : tie.Need-returns-2
-returns-2 c = ?
+returns-2 c =
+    let a = c .before .before .before .before .before .before in
+    at-head (a .args .line .now) (a .args .phase) (a .args .reads) (a .args .extents) (a .args .stack .now) (a .args .counts .now) (a .pre) (c .before .enum-told .given .1) (c .take-head .result) (c .take-head .ensures .0) (c .take-head .ensures .1)
 
--- src/taking.rt:106:1
 same-length : tie.Need-same-length
 same-length c = search needs
 
--- src/taking.rt:106:1
 same-length-2 : tie.Need-same-length-2
 same-length-2 c = search needs
 
--- src/taking.rt:106:1
 returns-3 : tie.Need-returns-3
-returns-3 c = ?
+returns-3 c =
+    let a = c .before .before .before .before .before .before .before .before .before .before .before .before .before .before .before .before in
+    let r = c .before .before .before .before .take-row in
+    let x = c .before .before .before .before .before .before .before .before .x .given in
+    at-row (a .args .line .now) (a .args .phase) (a .args .reads) (a .args .extents) (a .args .stack .now) (a .args .counts .now) (a .pre) (c .before .before .before .before .before .before .before .before .before .before .before .enum-told2 .given .1) (x .0 .0) (x .0 .1 .0) (sym (x .1) ∙ c .before .before .before .before .before .before .before .before .before .before .row-of .ensures) (r .result) (r .last .1 .1 .1 .1 .0) (r .last .1 .1 .1 .1 .1 .0) (r .ensures .0) (r .ensures .1)
 
--- src/taking.rt:106:1
 returns-4 : tie.Need-returns-4
-returns-4 c = ?
+returns-4 c =
+    let a = c .before .before .before .before .before .before in
+    at-end (a .args .line .now) (a .args .phase) (a .args .reads) (a .args .extents) (a .args .stack .now) (a .args .counts .now) (a .pre) (c .before .enum-told4 .given .1) (c .refused2 .result) (c .refused2 .ensures)
 
--- src/taking.rt:106:1
 returns-5 : tie.Need-returns-5
-returns-5 c = ?
+returns-5 c =
+    let a = c .before .before .before .before .before .before .before in
+    let n = c .before .before .phase .given in
+    at-stop (a .args .line .now) (a .args .phase) (a .args .reads) (a .args .extents) (a .args .stack .now) (a .args .counts .now) (a .pre) (n .0 .0) (n .1) (c .refused3 .result) (c .refused3 .ensures)
 
 pub take-line-spec : {M : Type 1} → statement M
 take-line-spec =

@@ -141,7 +141,10 @@ returns-5 : tie.Need-returns-5
 returns-5 c =
     let a = c .before .before .before .before .before .before .before .before .before .before .before in
     let f = c .before .enum-told2 .given .1 in
-    ?
+    let s : c .before .before .before .before .before .touch .last .0 ≡ a .args .stack .now =
+    c .before .before .before .before .before .touch .ensures .1 ∙ ap (λ (r : Place). leftBy r (a .args .extents) (a .args .x) (a .args .stack .now)) f in
+    let d = stop-done (a .args .reads) (a .args .extents) (a .args .stack .now) (a .args .counts .now) (a .pre) (a .args .x) (a .args .ends) 9 (c .refused3 .result) (c .refused3 .ensures) (row-full (a .args .reads) (a .args .extents) (a .args .stack .now) (a .args .counts .now) (a .pre) (a .args .x) (a .args .ends) (omega arith) (omega arith) (sym (c .before .before .before .before .before .touch .ensures .0) ∙ f)) in
+    (ap (λ (v : List ℕ). takenIn (c .refused3 .result) v (a .args .counts .now)) s ∙ d .0, subst (λ (v : List ℕ). Tallied (c .refused3 .result .reads) (c .refused3 .result .extents) v (a .args .counts .now)) (sym s) (d .1))
 
 same-length-6 : tie.Need-same-length-6
 same-length-6 c = search needs
