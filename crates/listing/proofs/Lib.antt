@@ -5,3 +5,7 @@ pub mod Examples
 pub mod TallyRows
 pub mod Phases
 pub mod LineLaws
+pub mod PageLaws
+pub mod DigitLaws
+pub mod RowLaws
+pub mod Turns

@@ -18,8 +18,8 @@ use Rattle.listing.specs.Feeding.{empty, inside, whole, takeRow, takeHea
 use Rattle.listing.specs.Listers.{rowFound, headFound, tallyIn, Tallied, takenBy, takenIn, HeadTaken, HeadKept, andThen}
 use Rattle.listing.specs.declared.lines.Row.the-variants.{Read, Bad}
 use Rattle.listing.specs.declared.lines.Head.the-variants.{Open, Closed, Bad as BadHead}
-use Rattle.listing.specs.declared.taking.Phase.{Phase}
-use Rattle.listing.specs.declared.taking.Phase.the-variants.{Empty, Inside, Whole, Stopped}
+use Rattle.listing.specs.declared.Phase.{Phase}
+use Rattle.listing.specs.declared.Phase.the-variants.{Empty, Inside, Whole, Stopped}
 use Rattle.listing.specs.declared.taking.Progress.{Progress}
 
 -- another line is read as none

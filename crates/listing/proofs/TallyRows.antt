@@ -25,7 +25,7 @@ use Rattle.texts.proofs.Tests.{never}
 use Rattle.listing.specs.Tallies.{Tally, countedWith, tallied, overTally}
 use Rattle.listing.specs.Feeding.{Taken, taken, takeRow}
 use Rattle.listing.specs.Listers.{tallyIn, Tallied, takenBy, takenIn}
-use Rattle.listing.specs.declared.taking.Phase.the-variants.{Inside, Whole, Stopped}
+use Rattle.listing.specs.declared.Phase.the-variants.{Inside, Whole, Stopped}
 use Rattle.listing.specs.declared.taking.Progress.{Progress}
 
 -- one count of 0 more adds nothing

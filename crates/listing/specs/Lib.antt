@@ -2,3 +2,4 @@ pub mod Tallies
 pub mod Listings
 pub mod Feeding
 pub mod Listers
+pub mod Pages

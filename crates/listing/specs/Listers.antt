@@ -18,8 +18,8 @@ use Rattle.listing.specs.declared.lines.Row.{Row}
 use Rattle.listing.specs.declared.lines.Row.the-variants.{Read, Bad}
 use Rattle.listing.specs.declared.lines.Head.{Head}
 use Rattle.listing.specs.declared.lines.Head.the-variants.{Open, Closed, Bad as BadHead}
-use Rattle.listing.specs.declared.taking.Phase.{Phase}
-use Rattle.listing.specs.declared.taking.Phase.the-variants.{Empty, Inside, Whole, Stopped}
+use Rattle.listing.specs.declared.Phase.{Phase}
+use Rattle.listing.specs.declared.Phase.the-variants.{Empty, Inside, Whole, Stopped}
 use Rattle.listing.specs.declared.taking.Progress.{Progress}
 use Rattle.listing.specs.declared.turning.Turn.{Turn}
 use Rattle.listing.specs.declared.Lister.{Lister}

@@ -1,15 +1,36 @@
-// The listing of a log text: its reads, its cold reads, and the misses of every size that matters.
+// The listing of a log text: its reads, its cold reads, and for every size from 1 to the number of its extents the misses.
+mod checks;
 mod lines;
+mod printing;
 mod rows;
 mod taking;
 mod turning;
 
-use taking::Phase;
 ghost use mathlib.Core.Path.{_≡_};
 ghost use mathlib.Core.List.{[]};
+ghost use Prim.Native.Nat.{_≤_};
+ghost use lib.ListN.{take};
 ghost use Rattle.texts.specs.Lines.{at};
-ghost use Rattle.listing.specs.Feeding.{empty, takePiece};
+ghost use Rattle.listing.specs.Feeding.{empty, takePiece, printedAt};
 ghost use Rattle.listing.specs.Listers.{soundLister, stateOf, unnumbered};
+ghost use Rattle.listing.specs.Pages.{pageBytes};
+
+// The bytes of a page.
+pub const PAGE_BYTES: usize = 8192;
+
+// A page of output: its first `len` bytes are the text.
+pub struct Page {
+    pub bytes: [u8; PAGE_BYTES],
+    pub len: usize,
+}
+
+// How far a text is: before its first line, inside the trace, at its end, or refused with this number.
+pub enum Phase {
+    Empty,
+    Inside,
+    Whole,
+    Stopped(u32),
+}
 
 // A log text taken so far: what is held of a line that has not ended, how far the text is, and the tally of its reads.
 pub struct Lister {
@@ -20,4 +41,113 @@ pub struct Lister {
     pub extents: usize,
     pub stack: [u32; reuse::MAX_EXTENTS],
     pub counts: [u32; reuse::MAX_EXTENTS],
+}
+
+impl Lister {
+    // Nothing taken yet.
+    pub fn new() -> Lister
+        ensures { λ r. ⌜ stateOf r ≡ at 0 [] empty ⌝ }
+    {
+        Lister {
+            line: [0; 19],
+            held: 0,
+            phase: Phase::Empty,
+            reads: 0,
+            extents: 0,
+            stack: [0; reuse::MAX_EXTENTS],
+            counts: [0; reuse::MAX_EXTENTS],
+        }
+    }
+
+    // Whether the lister stands for a text taken so far.
+    pub fn sound(self) -> bool
+        ensures { λ r. ⌜ r ≡ soundLister self ⌝ }
+    {
+        if turning::LONGEST < self.held {
+            return false;
+        }
+        let v = self.extents;
+        if reuse::MAX_EXTENTS < v {
+            return false;
+        }
+        if reuse::MAX_READS < self.reads {
+            return false;
+        }
+        let stack = self.stack;
+        if !checks::all_distinct(&stack[..v]) {
+            return false;
+        }
+        let counts = self.counts;
+        v as u64 + checks::total(&counts[..v]) == self.reads as u64
+    }
+
+    // One piece of the text more. A lister that is not sound, or that is refused, stays as it is.
+    pub fn feed(self, bytes: &[u8]) -> Lister
+        ensures { λ r. ⌜ stateOf r ≡ unnumbered (takePiece (stateOf self) (now (bytes .entry))) ⌝ }
+    {
+        let mut phase = self.phase;
+        if turning::stopped(phase) {
+            return self;
+        }
+        if !self.sound() {
+            return self;
+        }
+        let mut line = self.line;
+        let mut held = self.held;
+        let mut reads = self.reads;
+        let mut extents = self.extents;
+        let mut stack = self.stack;
+        let mut counts = self.counts;
+        let mut at: usize = 0;
+        while at < bytes.len() {
+            let t = turning::advance(
+                bytes,
+                at,
+                &mut line,
+                held,
+                phase,
+                reads,
+                extents,
+                &mut stack,
+                &mut counts,
+            );
+            at = t.at;
+            held = t.held;
+            phase = t.phase;
+            reads = t.reads;
+            extents = t.extents;
+        }
+        Lister {
+            line,
+            held,
+            phase,
+            reads,
+            extents,
+            stack,
+            counts,
+        }
+    }
+
+    // The whole output at the end of the text.
+    pub fn finish(self) -> Page
+        ensures { λ r. ⌜ (take (r .len) (r .bytes) ≡ printedAt (stateOf self)) × (r .len ≤ pageBytes) ⌝ }
+    {
+        if !self.sound() {
+            return printing::refused_page(7);
+        }
+        let phase = self.phase;
+        match phase {
+            Phase::Empty => printing::refused_page(1),
+            Phase::Inside => printing::refused_page(1),
+            Phase::Stopped(n) => printing::refused_page(n),
+            Phase::Whole => {
+                if 0 < self.held {
+                    return printing::refused_page(1);
+                }
+                let v = self.extents;
+                let counts = self.counts;
+                printing::listing_page(self.reads, &counts[..v])
+            }
+        }
+    }
 }

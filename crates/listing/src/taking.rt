@@ -1,4 +1,5 @@
 // What a line does to a log text taken so far.
+use crate::Phase;
 use crate::lines;
 use crate::lines::Head;
 use crate::lines::Row;
@@ -8,18 +9,10 @@ ghost use mathlib.Core.Bool.{cond};
 ghost use Rattle.texts.specs.Logs.{row};
 ghost use Rattle.listing.specs.Feeding.{takeRow};
 ghost use Rattle.listing.specs.Listers.{Tallied, HeadTaken, HeadKept, tallyIn, takenBy, takenIn, andThen};
-ghost use Rattle.listing.specs.declared.taking.Phase.the-variants.{Inside, Whole, Stopped};
+ghost use Rattle.listing.specs.declared.Phase.the-variants.{Inside, Whole, Stopped};
 
 // The largest extent.
 const MAX_EXTENT: u64 = 4294967295;
-
-// How far a text is: before its first line, inside the trace, at its end, or refused with this number.
-pub enum Phase {
-    Empty,
-    Inside,
-    Whole,
-    Stopped(u32),
-}
 
 // How far a text is, the reads taken, and how many extents they have.
 pub struct Progress {

@@ -1,7 +1,7 @@
 // A piece of a log text, taken line by line.
+use crate::Phase;
 use crate::rows;
 use crate::taking;
-use crate::taking::Phase;
 use crate::taking::Progress;
 ghost use mathlib.Core.Path.{_≡_};
 ghost use mathlib.Core.List.{_++_};
