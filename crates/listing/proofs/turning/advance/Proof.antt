@@ -1,125 +1,135 @@
+-- `listing::turning::advance` meets its contract.
+use mathlib.Core.Path.{_≡_, sym, ap, _∙_}
+use Prim.Native.Nat.{ℕ, _+_, _-_, _≤_}
+use native.Mathlib.Omega.{arith}
+use mathlib.Core.List.{List, _++_}
+use lib.ListN.{length, take, drop}
+use borrow.Rule.Slice.PartMut.{midOf, mid-len}
+use Rattle.listing.specs.Listers.{tallyIn, takenBy, takenIn, andThen}
+use Rattle.listing.proofs.LineLaws.{length-within}
+use Rattle.listing.proofs.Turns.{turn-long, turn-kept, turn-stopped, turn-ended}
 use borrow.Author.Needs.{needs}
 use Rattle.listing.proofs.turning.advance.Statement.{statement}
 use Rattle.listing.proofs.turning.advance.Tie as tie
-use Rattle.listing.proofs.turning.advance.Reads as reads
-use Rattle.listing.proofs.turning.advance.Lts as lts
-use Rattle.listing.proofs.rows.keep.Reads as keep-reads
-use Rattle.listing.proofs.rows.line_length.Reads as line-length-reads
-use Rattle.listing.proofs.turning.end_line.Reads as end-line-reads
-use Rattle.listing.proofs.turning.stopped.Reads as stopped-reads
-use Rattle.listing.proofs.turning.turned.Reads as turned-reads
 
--- src/turning.rt:89:42
+-- the bytes counted stand in the piece
+within : (c : tie.After-line-length) → (c .before .before .before .before .before .args .at + c .line-length .result ≤ length (c .before .before .before .before .before .args .bytes .now)) × (c .line-length .result ≤ 20 - c .before .before .before .before .before .args .held)
+within c =
+    let a = c .before .before .before .before .before in
+    length-within (a .args .bytes .now) (a .args .at) (20 - a .args .held) (c .line-length .result) (omega (arith, a .pre .more)) (c .line-length .ensures)
+
 add-line-length : tie.Need-add-line-length
 add-line-length c = search needs
 
--- src/turning.rt:89:42
 sub-line-length : tie.Need-sub-line-length
 sub-line-length c = search needs
 
--- src/turning.rt:89:9
 line-length-requires : tie.Need-line-length-requires
 line-length-requires c κs = search needs
 
--- src/turning.rt:90:15
 add-end : tie.Need-add-end
-add-end c = ?
+add-end c = omega (arith, within c)
 
--- src/turning.rt:91:18
 add-if1 : tie.Need-add-if1
-add-if1 c = ?
+add-if1 c = omega (arith, within c)
 
--- src/turning.rt:92:9
 turned-requires : tie.Need-turned-requires
 turned-requires c κs = search needs
 
--- src/turning.rt:92:9
 returns : tie.Need-returns
-returns c = ?
+returns c =
+    let a = c .before .before .before .before .before .before .before in
+    let n = c .before .before .line-length in
+    turn-long (a .args .bytes .now) (a .args .at) (a .args .line .now) (a .args .held) (a .args .phase) (a .args .reads) (a .args .extents) (a .args .stack .now) (a .args .counts .now) (a .pre) (n .result) (n .ensures) (omega arith) (c .turned .result) (c .turned .ensures)
 
--- src/turning.rt:95:32
 sub-keep : tie.Need-sub-keep
 sub-keep c = search needs
 
--- src/turning.rt:95:32
 part-keep-start : tie.Need-part-keep-start
 part-keep-start c = search needs
 
--- src/turning.rt:95:32
 part-keep-end : tie.Need-part-keep-end
 part-keep-end c = search needs
 
--- src/turning.rt:95:9
 keep-requires : tie.Need-keep-requires
 keep-requires c κs = search needs
 
--- src/turning.rt:96:28
 add-turned : tie.Need-add-turned
 add-turned c = search needs
 
--- src/turning.rt:96:9
 turned-requires-2 : tie.Need-turned-requires-2
 turned-requires-2 c κs = search needs
 
--- src/turning.rt:96:9
 same-length : tie.Need-same-length
 same-length c = search needs
 
--- src/turning.rt:96:9
 returns-2 : tie.Need-returns-2
-returns-2 c = ?
+returns-2 c =
+    let a = c .before .before .before .before .before .before .before .before .before .before .before .before .before in
+    let n = c .before .before .before .before .before .before .before .before .line-length in
+    let k = c .before .before .before .keep in
+    let i : a .args .at + n .result - a .args .at ≡ n .result = omega arith in
+    let m = midOf (a .args .at) (a .args .at + n .result - a .args .at) (a .args .bytes .now) in
+    let l : length m ≡ n .result = mid-len (a .args .at) (a .args .at + n .result) (a .args .bytes .now) (within (c .before .before .before .before .before .before .before .before) .0) ∙ i in
+    let f : take (a .args .held + n .result) (k .last .0) ≡ take (a .args .held) (a .args .line .now) ++ take (n .result) (drop (a .args .at) (a .args .bytes .now)) =
+    ap (λ (j : ℕ). take (a .args .held + j) (k .last .0)) (sym l) ∙ k .ensures ∙ ap (λ (j : ℕ). take (a .args .held) (a .args .line .now) ++ take j (drop (a .args .at) (a .args .bytes .now))) i in
+    turn-kept (a .args .bytes .now) (a .args .at) (a .args .line .now) (a .args .held) (a .args .phase) (a .args .reads) (a .args .extents) (a .args .stack .now) (a .args .counts .now) (a .pre) (n .result) (n .ensures) (omega arith) (omega arith) (k .last .0) f (c .turned2 .result) (c .turned2 .ensures)
 
--- src/turning.rt:98:9
 end-line-requires : tie.Need-end-line-requires
-end-line-requires c κs = ?
+end-line-requires c κs =
+    let a = c .before .before .before .before .before .before .before .before .before .before in
+    let w = within (c .before .before .before .before .before) in
+    record { order = omega arith; inside = w .0; fits = omega (arith, a .pre .wide); tally = a .pre .tally }
 
--- src/turning.rt:111:8
 stopped-requires : tie.Need-stopped-requires
 stopped-requires c κs = search needs
 
--- src/turning.rt:112:9
 turned-requires-3 : tie.Need-turned-requires-3
 turned-requires-3 c κs = search needs
 
--- src/turning.rt:112:9
 same-length-2 : tie.Need-same-length-2
 same-length-2 c = search needs
 
--- src/turning.rt:112:9
 same-length-3 : tie.Need-same-length-3
 same-length-3 c = search needs
 
--- src/turning.rt:112:9
 same-length-4 : tie.Need-same-length-4
 same-length-4 c = search needs
 
--- src/turning.rt:112:9
 returns-3 : tie.Need-returns-3
-returns-3 c = ?
+returns-3 c =
+    let a = c .before .before .before .before .before .before .before .before .before .before .before .before .before .before .before .before .before .before .before .before in
+    let n = c .before .before .before .before .before .before .before .before .before .before .before .before .before .before .before .line-length in
+    let e = c .before .before .before .before .before .before .before .before .before .end-line in
+    let i : a .args .at + n .result - a .args .at ≡ n .result = omega arith in
+    let d : takenIn (e .result) (e .last .1 .1 .1 .1 .1 .1 .1 .1 .0) (e .last .1 .1 .1 .1 .1 .1 .1 .1 .1 .0) ≡ andThen (takenBy (a .args .phase) (tallyIn (a .args .reads) (a .args .extents) (a .args .stack .now) (a .args .counts .now))) (take (a .args .held) (a .args .line .now) ++ take (n .result) (drop (a .args .at) (a .args .bytes .now))) =
+    e .ensures .0 ∙ ap (λ (j : ℕ). andThen (takenBy (a .args .phase) (tallyIn (a .args .reads) (a .args .extents) (a .args .stack .now) (a .args .counts .now))) (take (a .args .held) (a .args .line .now) ++ take j (drop (a .args .at) (a .args .bytes .now)))) i in
+    turn-stopped (a .args .bytes .now) (a .args .at) (a .args .line .now) (a .args .held) (a .args .phase) (a .args .reads) (a .args .extents) (a .args .stack .now) (a .args .counts .now) (a .pre) (n .result) (n .ensures) (omega (arith, c .before .before .before .before .before .before .before .before .before .before .before .before .before .before .if1 .left)) (omega (arith, within (c .before .before .before .before .before .before .before .before .before .before .before .before .before .before .before) .0, c .before .before .before .before .before .before .before .before .before .before .before .before .before .if2 .left)) (e .result) (e .last .1 .1 .1 .0) (e .last .1 .1 .1 .1 .1 .1 .1 .1 .0) (e .last .1 .1 .1 .1 .1 .1 .1 .1 .1 .0) d (e .ensures .1) (sym (c .before .before .stopped .ensures) ∙ c .before .if3 .taken) (c .turned3 .result) (c .turned3 .ensures)
 
--- src/turning.rt:114:12
 add-turned-2 : tie.Need-add-turned-2
 add-turned-2 c = search needs
 
--- src/turning.rt:114:5
 turned-requires-4 : tie.Need-turned-requires-4
 turned-requires-4 c κs = search needs
 
--- src/turning.rt:75:1
 same-length-5 : tie.Need-same-length-5
 same-length-5 c = search needs
 
--- src/turning.rt:75:1
 same-length-6 : tie.Need-same-length-6
 same-length-6 c = search needs
 
--- src/turning.rt:75:1
 same-length-7 : tie.Need-same-length-7
 same-length-7 c = search needs
 
--- src/turning.rt:75:1
 returns-4 : tie.Need-returns-4
-returns-4 c = ?
+returns-4 c =
+    let a = c .before .before .before .before .before .before .before .before .before .before .before .before .before .before .before .before .before .before .before .before in
+    let n = c .before .before .before .before .before .before .before .before .before .before .before .before .before .before .before .line-length in
+    let e = c .before .before .before .before .before .before .before .before .before .end-line in
+    let i : a .args .at + n .result - a .args .at ≡ n .result = omega arith in
+    let d : takenIn (e .result) (e .last .1 .1 .1 .1 .1 .1 .1 .1 .0) (e .last .1 .1 .1 .1 .1 .1 .1 .1 .1 .0) ≡ andThen (takenBy (a .args .phase) (tallyIn (a .args .reads) (a .args .extents) (a .args .stack .now) (a .args .counts .now))) (take (a .args .held) (a .args .line .now) ++ take (n .result) (drop (a .args .at) (a .args .bytes .now))) =
+    e .ensures .0 ∙ ap (λ (j : ℕ). andThen (takenBy (a .args .phase) (tallyIn (a .args .reads) (a .args .extents) (a .args .stack .now) (a .args .counts .now))) (take (a .args .held) (a .args .line .now) ++ take j (drop (a .args .at) (a .args .bytes .now)))) i in
+    turn-ended (a .args .bytes .now) (a .args .at) (a .args .line .now) (a .args .held) (a .args .phase) (a .args .reads) (a .args .extents) (a .args .stack .now) (a .args .counts .now) (a .pre) (n .result) (n .ensures) (omega (arith, c .before .before .before .before .before .before .before .before .before .before .before .before .before .before .if1 .left)) (omega (arith, within (c .before .before .before .before .before .before .before .before .before .before .before .before .before .before .before) .0, c .before .before .before .before .before .before .before .before .before .before .before .before .before .if2 .left)) (e .result) (e .last .1 .1 .1 .0) (e .last .1 .1 .1 .1 .1 .1 .1 .1 .0) (e .last .1 .1 .1 .1 .1 .1 .1 .1 .1 .0) d (e .ensures .1) (sym (c .before .before .stopped .ensures) ∙ c .before .if3 .left) (c .turned4 .result) (c .turned4 .ensures)
 
 pub advance-spec : {M : Type 1} → statement M
 advance-spec =

@@ -1,90 +1,90 @@
+-- `listing::turning::end_line` meets its contract.
+use mathlib.Core.Path.{_≡_, sym, ap, _∙_}
+use Prim.Native.Nat.{ℕ, _+_, _-_, _≤_}
+use native.Mathlib.Omega.{arith}
+use mathlib.Core.List.{List, _++_}
+use lib.ListN.{length, take, drop}
+use lib.Seq.{length-take-le}
+use borrow.Rule.Slice.PartMut.{midOf, mid-len}
+use Rattle.listing.specs.Listers.{tallyIn, takenBy, andThen}
 use borrow.Author.Needs.{needs}
 use Rattle.listing.proofs.turning.end_line.Statement.{statement}
 use Rattle.listing.proofs.turning.end_line.Tie as tie
-use Rattle.listing.proofs.turning.end_line.Reads as reads
-use Rattle.listing.proofs.turning.end_line.Lts as lts
-use Rattle.listing.proofs.rows.keep.Reads as keep-reads
-use Rattle.listing.proofs.taking.take_line.Reads as take-line-reads
 
--- src/turning.rt:67:34
 sub-take-line : tie.Need-sub-take-line
 sub-take-line c = search needs
 
--- src/turning.rt:67:34
 part-take-line-start : tie.Need-part-take-line-start
 part-take-line-start c = search needs
 
--- src/turning.rt:67:34
 part-take-line-end : tie.Need-part-take-line-end
 part-take-line-end c = search needs
 
--- src/turning.rt:67:9
 take-line-requires : tie.Need-take-line-requires
 take-line-requires c κs = search needs
 
--- src/turning.rt:67:9
 same-length : tie.Need-same-length
 same-length c = search needs
 
--- src/turning.rt:67:9
 same-length-2 : tie.Need-same-length-2
 same-length-2 c = search needs
 
--- src/turning.rt:67:9
 returns : tie.Need-returns
-returns c = ?
+returns c =
+    let a = c .before .before .before .before .before .before .before .before .before .before .before .before .before in
+    let e = c .before .before .before .before .take-line .ensures in
+    let m = midOf (a .args .at) (a .args .end - a .args .at) (a .args .bytes .now) in
+    let z : a .args .held ≡ 0 = omega arith in
+    (e .0 ∙ ap (λ (k : ℕ). andThen (takenBy (a .args .phase) (tallyIn (a .args .reads) (a .args .extents) (a .args .stack .now) (a .args .counts .now))) (take k (a .args .line .now) ++ m)) (sym z), e .1)
 
--- src/turning.rt:69:28
 sub-keep : tie.Need-sub-keep
 sub-keep c = search needs
 
--- src/turning.rt:69:28
 part-keep-start : tie.Need-part-keep-start
 part-keep-start c = search needs
 
--- src/turning.rt:69:28
 part-keep-end : tie.Need-part-keep-end
 part-keep-end c = search needs
 
--- src/turning.rt:69:5
 keep-requires : tie.Need-keep-requires
 keep-requires c κs = search needs
 
--- src/turning.rt:70:21
 sub-n : tie.Need-sub-n
 sub-n c = search needs
 
--- src/turning.rt:70:13
 add-n : tie.Need-add-n
 add-n c = search needs
 
--- src/turning.rt:71:23
 slice-reshare-prefix-take-line : tie.Need-slice-reshare-prefix-take-line
 slice-reshare-prefix-take-line c = search needs
 
--- src/turning.rt:71:23
 slice-aggregate-take-line : tie.Need-slice-aggregate-take-line
-slice-aggregate-take-line c = ?
+slice-aggregate-take-line c =
+    let a = c .before .before .before .before .before .before .before .before .before .before .before in
+    sym (length-take-le _ _ (omega (arith, c .before .before .before .keep .kept .0, a .pre .fits)))
 
--- src/turning.rt:71:5
 take-line-requires-2 : tie.Need-take-line-requires-2
 take-line-requires-2 c κs = search needs
 
--- src/turning.rt:50:1
 same-length-3 : tie.Need-same-length-3
 same-length-3 c = search needs
 
--- src/turning.rt:50:1
 same-length-4 : tie.Need-same-length-4
 same-length-4 c = search needs
 
--- src/turning.rt:50:1
 same-length-5 : tie.Need-same-length-5
 same-length-5 c = search needs
 
--- src/turning.rt:50:1
 returns-2 : tie.Need-returns-2
-returns-2 c = ?
+returns-2 c =
+    let a = c .before .before .before .before .before .before .before .before .before .before .before .before .before .before .before .before .before .before in
+    let k = c .before .before .before .before .before .before .before .before .before .before .keep in
+    let e = c .before .before .before .before .take-line2 .ensures in
+    let m = midOf (a .args .at) (a .args .end - a .args .at) (a .args .bytes .now) in
+    let l : length m ≡ a .args .end - a .args .at = mid-len (a .args .at) (a .args .end) (a .args .bytes .now) (a .pre .inside) in
+    let f : take (a .args .held + (a .args .end - a .args .at)) (k .last .0) ≡ take (a .args .held) (a .args .line .now) ++ m =
+    ap (λ (i : ℕ). take (a .args .held + i) (k .last .0)) (sym l) ∙ k .ensures in
+    (e .0 ∙ ap (λ (v : List ℕ). andThen (takenBy (a .args .phase) (tallyIn (a .args .reads) (a .args .extents) (a .args .stack .now) (a .args .counts .now))) v) f, e .1)
 
 pub end-line-spec : {M : Type 1} → statement M
 end-line-spec =
