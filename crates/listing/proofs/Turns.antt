@@ -62,7 +62,7 @@ unfolding takePiece feedBy
 take-none s = refl
 
 -- a refused text stays refused
-stay : (n : ℕ) (l : List ℕ) → takePiece (stopped 0 n) l ≡ stopped 0 n
+pub stay : (n : ℕ) (l : List ℕ) → takePiece (stopped 0 n) l ≡ stopped 0 n
 unfolding takePiece
 stay n l = absorb takeLine logRoom 0 n l
 

@@ -1,67 +1,74 @@
+-- `listing::Lister::feed` meets its contract.
+use mathlib.Core.Path.{_≡_, refl, sym, ap, _∙_}
+use Prim.Native.Nat.{ℕ, _-_, _≤_}
+use native.Mathlib.Omega.{arith}
+use mathlib.Core.Bool.{true, false}
+use lib.ListN.{length, take}
+use borrow.Author.Tests.{not-true, not-false}
+use Rattle.listing.specs.Feeding.{State, takePiece}
+use Rattle.listing.specs.Listers.{stateIn, unnumbered, soundLister}
+use Rattle.listing.proofs.Feeds.{refused-stays, stopped-stays, Fed, fed-start, fed-more, fed-turn, fed-end}
+use Rattle.listing.proofs.Soundness.{sound-facts, state-sound, state-unsound}
 use borrow.Author.Needs.{needs}
 use Rattle.listing.proofs.Lister.feed.Statement.{statement}
 use Rattle.listing.proofs.Lister.feed.Tie as tie
-use Rattle.listing.proofs.Lister.feed.Reads as reads
-use Rattle.listing.proofs.Lister.feed.Lts as lts
-use Rattle.listing.proofs.Lister.sound.Reads as sound-reads
-use Rattle.listing.proofs.turning.advance.Reads as advance-reads
-use Rattle.listing.proofs.turning.stopped.Reads as stopped-reads
 
 abbrev Inv-loop : tie.InvT-loop
 Inv-loop bytes phase₀ line₀ held₀ reads₀ extents₀ stack₀ counts₀ at₀ phase line held reads extents stack counts at =
-    ?
+    Fed bytes (stateIn phase₀ reads₀ extents₀ stack₀ counts₀ (take held₀ line₀)) phase line held reads extents stack counts at
 
 abbrev μ-loop : tie.MeasureT-loop
-μ-loop bytes phase₀ line₀ held₀ reads₀ extents₀ stack₀ counts₀ at₀ phase line held reads extents stack counts at =
-    ?
+μ-loop bytes phase₀ line₀ held₀ reads₀ extents₀ stack₀ counts₀ at₀ phase line held reads extents stack counts at = length bytes - at
 
--- src/lib.rt:89:12
+-- the lister is sound
+sound-is : (c : tie.Else2 Inv-loop μ-loop) → soundLister (c .before .before .before .before .before .args .self) ≡ true
+sound-is c = sym (c .before .sound .ensures) ∙ not-false (c .before .sound .result) (c .if2 .left)
+
 stopped-requires : tie.Need-stopped-requires Inv-loop μ-loop
-stopped-requires c κs = ?
+stopped-requires c κs = search needs
 
--- src/lib.rt:90:13
 returns : tie.Need-returns Inv-loop μ-loop
-returns c = ?
+returns c = let a = c .before .before .before .args in stopped-stays (a .self) (a .bytes .now) (sym (c .before .stopped .ensures) ∙ c .if1 .taken)
 
--- src/lib.rt:92:13
 sound-requires : tie.Need-sound-requires Inv-loop μ-loop
-sound-requires c κs = ?
+sound-requires c κs = search needs
 
--- src/lib.rt:93:13
 returns-2 : tie.Need-returns-2 Inv-loop μ-loop
-returns-2 c = ?
+returns-2 c = let a = c .before .before .before .before .before .args in refused-stays (a .self) 7 (a .bytes .now) (state-unsound (a .self) (sym (c .before .sound .ensures) ∙ not-true (c .before .sound .result) (c .if2 .taken)))
 
--- src/lib.rt:102:9
 loop-holds : tie.Need-loop-holds Inv-loop μ-loop
-loop-holds c = ?
+loop-holds c =
+    let a = c .before .before .before .before .before .before .before .before .args in
+    let s = sound-is (c .before .before .before) in
+    let f = sound-facts (a .self) s (search needs) (search needs) in
+    fed-start (a .bytes .now) (stateIn (a .self .phase) (a .self .reads) (a .self .extents) (a .self .stack) (a .self .counts) (take (a .self .held) (a .self .line))) (a .self .phase) (a .self .line) (a .self .held) (a .self .reads) (a .self .extents) (a .self .stack) (a .self .counts)
+    refl (f .0) (search needs) (f .1) (sym (c .before .before .before .before .before .before .stopped .ensures) ∙ c .before .before .before .before .before .if1 .left)
 
--- src/lib.rt:106:17
 slice-aggregate-advance : tie.Need-slice-aggregate-advance Inv-loop μ-loop
-slice-aggregate-advance c = ?
+slice-aggregate-advance c = sym (c .before .before .loop .inv .wide)
 
--- src/lib.rt:111:17
 slice-aggregate-advance-2 : tie.Need-slice-aggregate-advance-2 Inv-loop μ-loop
-slice-aggregate-advance-2 c = ?
+slice-aggregate-advance-2 c = sym (c .before .before .before .loop .inv .tally .stack-wide)
 
--- src/lib.rt:112:17
 slice-aggregate-advance-3 : tie.Need-slice-aggregate-advance-3 Inv-loop μ-loop
-slice-aggregate-advance-3 c = ?
+slice-aggregate-advance-3 c = sym (c .before .before .before .before .loop .inv .tally .counts-wide)
 
--- src/lib.rt:103:17
 advance-requires : tie.Need-advance-requires Inv-loop μ-loop
-advance-requires c κs = ?
+advance-requires c κs = fed-more _ _ _ _ _ _ _ _ _ _ (c .before .before .before .before .loop .inv) (omega arith)
 
--- src/lib.rt:102:9
 loop-less : tie.Need-loop-less Inv-loop μ-loop
-loop-less c = ?
+loop-less c = let t = c .before .before .before .advance .ensures in omega (arith, t .forward, t .inside)
 
--- src/lib.rt:102:9
 loop-again : tie.Need-loop-again Inv-loop μ-loop
-loop-again c = ?
+loop-again c =
+    let e = c .before .before .before .advance in
+    fed-turn _ _ _ _ _ _ _ _ _ _ (c .before .before .before .before .before .before .before .before .loop .inv) (e .result) (e .last .1 .1 .0) (e .last .1 .1 .1 .1 .1 .1 .1 .0) (e .last .1 .1 .1 .1 .1 .1 .1 .1 .0) (e .kept .1 .1 .0) (e .ensures)
 
--- src/lib.rt:85:5
 returns-3 : tie.Need-returns-3 Inv-loop μ-loop
-returns-3 c = ?
+returns-3 c =
+    let a = c .before .before .before .before .before .before .before .before .before .before .args in
+    let s = sound-is (c .before .before .before .before .before) in
+    fed-end _ _ _ _ _ _ _ _ _ _ (c .before .loop .inv) (omega arith) _ refl ∙ ap (λ (v : State). unnumbered (takePiece v (a .bytes .now))) (sym (state-sound (a .self) s))
 
 pub feed-spec : {M : Type 1} → statement M
 feed-spec =

@@ -1,0 +1,104 @@
+-- A piece fed to a lister: before the first line, after each turn, and at the end of the piece.
+use mathlib.Core.Path.{_≡_, refl, sym, ap, _∙_}
+use Prim.Native.Nat.{ℕ, _+_, _-_, _≤_, _<_}
+use native.Mathlib.Omega.{arith}
+use mathlib.Core.List.{List, []}
+use mathlib.Core.Bool.{Bool, true, false, cond, _&&_}
+use lib.Dec.{leb, eqb}
+use lib.ListN.{length, take, drop}
+use borrow.Author.Tests.{le-leb, eq-eqb}
+use Rattle.reuse.specs.Limits.{maxReads, maxExtents}
+use Rattle.reuse.specs.Lists.{distinct, sum}
+use Rattle.reuse.proofs.Lists.{by-test}
+use Rattle.texts.specs.Lines.{Answer, to, no, at, stopped}
+use Rattle.texts.specs.Logs.{longestLine}
+use Rattle.texts.proofs.Tests.{never}
+use Rattle.texts.proofs.Positions.{gone}
+use Rattle.listing.specs.Feeding.{Taken, State, takePiece}
+use Rattle.listing.specs.Listers.{Tallied, tallyIn, takenBy, stateBy, stateIn, unnumbered, isStopped, soundLister, stateOf, Turnable, Turned}
+use Rattle.listing.specs.declared.Phase.{Phase}
+use Rattle.listing.specs.declared.Phase.the-variants.{Empty, Inside, Whole, Stopped}
+use Rattle.listing.specs.declared.Lister.{Lister}
+use Rattle.listing.specs.declared.turning.Turn.{Turn}
+use Rattle.listing.proofs.Turns.{take-none, stay}
+
+-- rows that hold a tally make a sound lister
+pub sound-from : (l : Lister) → l .held ≤ longestLine → Tallied (l .reads) (l .extents) (l .stack) (l .counts) → soundLister l ≡ true
+unfolding soundLister
+sound-from l h g =
+    rw (le-leb (l .held) longestLine h, le-leb (l .extents) maxExtents (g .few), le-leb (l .reads) maxReads (g .short), g .once, eq-eqb (l .extents + sum (take (l .extents) (l .counts))) (l .reads) (g .all))
+
+-- lines were not counted in a state of a phase
+pub unnumbered-same : (a : Answer Taken) (held : List ℕ) → unnumbered (stateBy a held) ≡ stateBy a held
+unnumbered-same (to s) held = refl
+unnumbered-same (no n) held = refl
+
+-- a refused lister stands for a refusal
+stop-is : (l : Lister) → isStopped (l .phase) ≡ true → (n : ℕ) × (stateOf l ≡ stopped 0 n)
+unfolding stateOf
+stop-is l h = by-test (soundLister l) (λ e. on (l .phase) h refl e) (λ e. (7, rw e))
+  where
+    on : (p : Phase) → isStopped p ≡ true → l .phase ≡ p → soundLister l ≡ true → (n : ℕ) × (stateOf l ≡ stopped 0 n)
+    on Empty z q e = never (cc)
+    on Inside z q e = never (cc)
+    on Whole z q e = never (cc)
+    on (Stopped n) z q e = (n, rw (e, q))
+
+-- a lister that stands for a refusal stays as it is
+pub refused-stays : (l : Lister) (n : ℕ) (bytes : List ℕ) → stateOf l ≡ stopped 0 n → stateOf l ≡ unnumbered (takePiece (stateOf l) bytes)
+refused-stays l n bytes e = e ∙ sym (ap (λ (s : State). unnumbered (takePiece s bytes)) e ∙ ap unnumbered (stay n bytes))
+
+-- a refused lister does
+pub stopped-stays : (l : Lister) (bytes : List ℕ) → isStopped (l .phase) ≡ true → stateOf l ≡ unnumbered (takePiece (stateOf l) bytes)
+stopped-stays l bytes h = let s = stop-is l h in refused-stays l (s .0) bytes (s .1)
+
+-- a piece taken as far as a place: what is left of it does from here what the whole does from the start
+pub record Fed (bytes : List ℕ) (start : State) (phase : Phase) (line : List ℕ) (held reads extents : ℕ) (stack counts : List ℕ) (pos : ℕ) : Type 0 where
+  pub inside : pos ≤ length bytes
+  pub fits : held ≤ longestLine
+  pub wide : length line ≡ longestLine
+  pub tally : Tallied reads extents stack counts
+  pub goes : pos < length bytes → isStopped phase ≡ false
+  pub same : unnumbered (takePiece start bytes) ≡ unnumbered (takePiece (stateIn phase reads extents stack counts (take held line)) (drop pos bytes))
+
+module _ (bytes : List ℕ) (start : State) (phase : Phase) (line : List ℕ) (held reads extents : ℕ) (stack counts : List ℕ) where
+  -- nothing is taken
+  pub fed-start : start ≡ stateIn phase reads extents stack counts (take held line) → held ≤ longestLine → length line ≡ longestLine → Tallied reads extents stack counts → isStopped phase ≡ false
+      → Fed bytes start phase line held reads extents stack counts 0
+  fed-start e h w g z = record {
+    inside = omega arith;
+    fits = h;
+    wide = w;
+    tally = g;
+    goes = λ p. z;
+    same = ap (λ (s : State). unnumbered (takePiece s bytes)) e;
+  }
+
+  module _ (pos : ℕ) (f : Fed bytes start phase line held reads extents stack counts pos) where
+    -- more can be taken
+    pub fed-more : pos < length bytes → Turnable bytes pos line held phase reads extents stack counts
+    fed-more h = record { more = h; wide = f .wide; fits = f .fits; tally = f .tally; goes = f .goes h }
+
+    -- a turn
+    pub fed-turn : (r : Turn) (line′ stack′ counts′ : List ℕ) → length line′ ≡ length line → Turned bytes pos (stateIn phase reads extents stack counts (take held line)) r line′ stack′ counts′
+        → Fed bytes start (r .phase) line′ (r .held) (r .reads) (r .extents) stack′ counts′ (r .at)
+    fed-turn r line′ stack′ counts′ w t = record {
+      inside = t .inside;
+      fits = t .fits;
+      wide = w ∙ f .wide;
+      tally = t .tally;
+      goes = t .goes;
+      same = f .same ∙ t .same;
+    }
+
+    -- all is taken
+    pub fed-end : length bytes ≤ pos → (l : Lister) → l ≡ record { line = line; held = held; phase = phase; reads = reads; extents = extents; stack = stack; counts = counts }
+        → stateOf l ≡ unnumbered (takePiece start bytes)
+    unfolding stateOf
+    fed-end h l e =
+        let s : soundLister (record { line = line; held = held; phase = phase; reads = reads; extents = extents; stack = stack; counts = counts }) ≡ true =
+        sound-from (record { line = line; held = held; phase = phase; reads = reads; extents = extents; stack = stack; counts = counts }) (f .fits) (f .tally) in
+        let q : stateOf (record { line = line; held = held; phase = phase; reads = reads; extents = extents; stack = stack; counts = counts }) ≡ stateIn phase reads extents stack counts (take held line) = rw s in
+        let d : takePiece (stateIn phase reads extents stack counts (take held line)) (drop pos bytes) ≡ stateIn phase reads extents stack counts (take held line) =
+        ap (takePiece (stateIn phase reads extents stack counts (take held line))) (gone bytes pos h) ∙ take-none (stateIn phase reads extents stack counts (take held line)) in
+        ap stateOf e ∙ q ∙ sym (f .same ∙ ap unnumbered d ∙ unnumbered-same (takenBy phase (tallyIn reads extents stack counts)) (take held line))
