@@ -9,3 +9,5 @@ pub mod PageLaws
 pub mod DigitLaws
 pub mod RowLaws
 pub mod Turns
+pub mod Soundness
+pub mod Finishing
