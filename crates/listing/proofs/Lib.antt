@@ -12,3 +12,4 @@ pub mod Turns
 pub mod Feeds
 pub mod Soundness
 pub mod Cuttings
+pub mod Finishing
