@@ -11,3 +11,5 @@ pub mod RowLaws
 pub mod Turns
 pub mod Feeds
 pub mod Soundness
+pub mod Cuttings
+pub mod Finishing

@@ -3,3 +3,4 @@ pub mod Listings
 pub mod Feeding
 pub mod Listers
 pub mod Pages
+pub mod Runs

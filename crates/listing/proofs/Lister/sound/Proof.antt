@@ -1,62 +1,71 @@
+-- `listing::Lister::sound` meets its contract.
+use mathlib.Core.Path.{_≡_, sym, _∙_}
+use native.Mathlib.Omega.{arith}
+use lib.ListN.{length}
+use lib.Seq.{length-take-le}
+use borrow.Author.Tests.{not-true, not-false}
+use Rattle.reuse.specs.Limits.{maxExtents}
+use Rattle.listing.proofs.Soundness.{sound-held, sound-extents, sound-reads, sound-twice, sound-all}
 use borrow.Author.Needs.{needs}
 use Rattle.listing.proofs.Lister.sound.Statement.{statement}
 use Rattle.listing.proofs.Lister.sound.Tie as tie
-use Rattle.listing.proofs.Lister.sound.Reads as reads
-use Rattle.listing.proofs.Lister.sound.Lts as lts
-use Rattle.listing.proofs.checks.all_distinct.Reads as all-distinct-reads
-use Rattle.listing.proofs.checks.total.Reads as total-reads
 
--- src/lib.rt:67:13
+-- the row of the stack has its length
+stack-wide : (c : tie.Start) → length (c .args .self .stack) ≡ maxExtents
+stack-wide c = search needs
+
+-- so has the row of the counts
+counts-wide : (c : tie.Start) → length (c .args .self .counts) ≡ maxExtents
+counts-wide c = search needs
+
 returns : tie.Need-returns
-returns c = ?
+returns c = sound-held (c .before .before .args .self) (c .if1 .taken)
 
--- src/lib.rt:71:13
 returns-2 : tie.Need-returns-2
-returns-2 c = ?
+returns-2 c = sound-extents (c .before .before .before .args .self) (c .before .if1 .left) (c .if2 .taken)
 
--- src/lib.rt:74:13
 returns-3 : tie.Need-returns-3
-returns-3 c = ?
+returns-3 c = sound-reads (c .before .before .before .before .before .args .self) (c .before .before .before .if1 .left) (c .before .before .if2 .left) (c .if3 .taken)
 
--- src/lib.rt:77:34
 array-share-prefix-stack : tie.Need-array-share-prefix-stack
-array-share-prefix-stack c = ?
+array-share-prefix-stack c = omega (arith, stack-wide (c .before .before .before .before .before .before), c .before .before .before .if2 .left)
 
--- src/lib.rt:77:34
 slice-aggregate-all-distinct : tie.Need-slice-aggregate-all-distinct
-slice-aggregate-all-distinct c = ?
+slice-aggregate-all-distinct c =
+    let a = c .before .before .before .before .before .before .before in
+    sym (length-take-le (a .args .self .extents) (a .args .self .stack) (omega (arith, stack-wide a, c .before .before .before .before .if2 .left)))
 
--- src/lib.rt:77:13
 all-distinct-requires : tie.Need-all-distinct-requires
 all-distinct-requires c κs = search needs
 
--- src/lib.rt:78:13
 returns-4 : tie.Need-returns-4
-returns-4 c = ?
+returns-4 c =
+    let a = c .before .before .before .before .before .before .before .before .before in
+    sound-twice (a .args .self) (c .before .before .before .before .before .before .before .if1 .left) (c .before .before .before .before .before .before .if2 .left) (c .before .before .before .before .if3 .left) (sym (c .before .all-distinct .ensures) ∙ not-true _ (c .if4 .taken))
 
--- src/lib.rt:81:34
 array-share-prefix-counts : tie.Need-array-share-prefix-counts
-array-share-prefix-counts c = ?
+array-share-prefix-counts c = omega (arith, counts-wide (c .before .before .before .before .before .before .before .before .before .before), c .before .before .before .before .before .before .before .if2 .left)
 
--- src/lib.rt:81:34
 slice-aggregate-total : tie.Need-slice-aggregate-total
-slice-aggregate-total c = ?
+slice-aggregate-total c =
+    let a = c .before .before .before .before .before .before .before .before .before .before .before in
+    sym (length-take-le (a .args .self .extents) (a .args .self .counts) (omega (arith, counts-wide a, c .before .before .before .before .before .before .before .before .if2 .left)))
 
--- src/lib.rt:81:20
 total-requires : tie.Need-total-requires
-total-requires c κs = ?
+total-requires c κs =
+    let a = c .before .before .before .before .before .before .before .before .before .before .before in
+    omega (arith, length-take-le (a .args .self .extents) (a .args .self .counts) (omega (arith, counts-wide a, c .before .before .before .before .before .before .before .before .if2 .left)), c .before .before .before .before .before .before .before .before .if2 .left)
 
--- src/lib.rt:81:9
 add-result : tie.Need-add-result
 add-result c = search needs
 
--- src/lib.rt:81:51
 cast-result : tie.Need-cast-result
 cast-result c = search needs
 
--- src/lib.rt:63:5
 returns-5 : tie.Need-returns-5
-returns-5 c = ?
+returns-5 c =
+    let a = c .before .before .before .before .before .before .before .before .before .before .before .before .before in
+    sound-all (a .args .self) (c .before .before .before .before .before .before .before .before .before .before .before .if1 .left) (c .before .before .before .before .before .before .before .before .before .before .if2 .left) (c .before .before .before .before .before .before .before .before .if3 .left) (sym (c .before .before .before .before .before .all-distinct .ensures) ∙ not-false _ (c .before .before .before .before .if4 .left)) (c .before .total .result) (c .before .total .ensures .0)
 
 pub sound-spec : {M : Type 1} → statement M
 sound-spec =
