@@ -1,12 +1,6 @@
 -- Listers that stand for a text taken so far: one law for each way that the code returns, and what soundness gives.
-<<<<<<< HEAD
-use mathlib.Core.Path.{_≡_, refl, sym, _∙_}
-use Prim.Native.Nat.{ℕ, _+_, _≤_, _<_}
-use native.Mathlib.Omega.{arith}
-=======
 use mathlib.Core.Path.{_≡_, refl}
 use Prim.Native.Nat.{ℕ, _+_, _≤_, _<_}
->>>>>>> listing-fin
 use mathlib.Core.List.{List, []}
 use mathlib.Core.Bool.{true, false, _&&_}
 use lib.Dec.{eqb, leb}
@@ -60,18 +54,11 @@ module _ (l : Lister) where
       → (l .held ≤ longestLine) × Tallied (l .reads) (l .extents) (l .stack) (l .counts)
   unfolding soundLister
   sound-facts h s n =
-<<<<<<< HEAD
-=======
       let fits = leb (l .held) longestLine in
->>>>>>> listing-fin
       let few = leb (l .extents) maxExtents in
       let short = leb (l .reads) maxReads in
       let once = distinct (take (l .extents) (l .stack)) in
       let all = eqb (l .extents + sum (take (l .extents) (l .counts))) (l .reads) in
-<<<<<<< HEAD
-      let fits = leb (l .held) longestLine in
-=======
->>>>>>> listing-fin
       let a = both (fits && few && short && once) all h in
       let b = both (fits && few && short) once (a .0) in
       let d = both (fits && few) short (b .0) in
