@@ -9,29 +9,8 @@ use lib.Seq.{take-all, drop-cons, drop-set-lt, getD-set-same}
 use borrow.Author.Tests.{ltb-true, ltb-false, lt-ltb, le-ltb}
 use Rattle.reuse.proofs.Lists.{by-test}
 use Rattle.texts.specs.Digits.{decimalBy, decimal, tooLong}
-use Rattle.texts.proofs.Numbers.{decimal-length}
+use Rattle.texts.proofs.Numbers.{decimal-short, decimal-long, decimal-length}
 use Rattle.listing.specs.Pages.{Put, numberRoom}
-
--- any bound from n on gives the same digits
-decimal-bound : (k j n : ℕ) → n ≤ k → n ≤ j → decimalBy k n ≡ decimalBy j n
-unfolding decimalBy
-decimal-bound zero zero n h g = refl
-decimal-bound zero (suc j) n h g = rw (lt-ltb n 10 (omega arith))
-decimal-bound (suc k) zero n h g = rw (lt-ltb n 10 (omega arith))
-decimal-bound (suc k) (suc j) n h g =
-    by-test (ltb n 10) (λ e. rw e) (λ e. let b : 10 ≤ n = ltb-false n 10 e in rw (e, decimal-bound k j (n / 10) (omega arith) (omega arith)))
-
--- a number of one digit
-one-digit : (n : ℕ) → n < 10 → decimal n ≡ (48 + n) ∷ []
-unfolding decimal decimalBy
-one-digit zero h = refl
-one-digit (suc n) h = rw (lt-ltb (suc n) 10 (omega arith))
-
--- a number of more: all but the last digit, then that
-last-digit : (n : ℕ) → 10 ≤ n → decimal n ≡ decimal (n / 10) ++ ((48 + n % 10) ∷ [])
-unfolding decimal decimalBy
-last-digit zero h = absurd (omega arith)
-last-digit (suc n) h = rw (le-ltb (suc n) 10 h, decimal-bound n (suc n / 10) (suc n / 10) (omega arith) (omega arith))
 
 -- what stands from a place on, once a byte is written there
 drop-set : (l : List ℕ) (k x : ℕ) → k < length l → drop k (set l k x) ≡ x ∷ drop (suc k) l
@@ -59,20 +38,20 @@ module _ (n : ℕ) (digits : List ℕ) (first left : ℕ) (h : Digits n digits f
   pub digits-room : 0 < first
   digits-room =
       by-test (ltb left 10)
-      (λ e. let b : 1 ≤ first = rw (one-digit left (ltb-true left 10 e)) at (h .room) in b)
-      (λ e. let b : length (decimal (left / 10)) + 1 ≤ first = simp (last-digit left (ltb-false left 10 e), length-append) at (h .room) in omega arith)
+      (λ e. let b : 1 ≤ first = rw (decimal-short left (ltb-true left 10 e)) at (h .room) in b)
+      (λ e. let b : length (decimal (left / 10)) + 1 ≤ first = simp (decimal-long left (ltb-false left 10 e), length-append) at (h .room) in omega arith)
 
   -- the last of those left is made
   pub digits-turn : (x : ℕ) → x ≡ 48 + left % 10 → 10 ≤ left → Digits n (set digits (first - 1) x) (first - 1) (left / 10)
   digits-turn x e g =
-      let b : length (decimal (left / 10)) + 1 ≤ first = simp (last-digit left g, length-append) at (h .room) in
+      let b : length (decimal (left / 10)) + 1 ≤ first = simp (decimal-long left g, length-append) at (h .room) in
       let s : suc (first - 1) ≡ first = omega arith in
       record {
         long = simp length-set (h .long);
         within = omega (arith, h .within);
         room = omega arith;
         same = rw (drop-set digits (first - 1) x (omega (arith, h .long, h .within)), s, e)
-            (sym (append-assoc (decimal (left / 10)) ((48 + left % 10) ∷ []) (drop first digits)) ∙ rw (last-digit left g) at (h .same));
+            (sym (append-assoc (decimal (left / 10)) ((48 + left % 10) ∷ []) (drop first digits)) ∙ rw (decimal-long left g) at (h .same));
       }
 
   -- the first of all is made
@@ -81,7 +60,7 @@ module _ (n : ℕ) (digits : List ℕ) (first left : ℕ) (h : Digits n digits f
       let b = digits-room in
       let s : suc (first - 1) ≡ first = omega arith in
       take-all (10 - (first - 1)) (drop (first - 1) (set digits (first - 1) x)) (simp (length-drop, length-set) (omega (arith, h .long)))
-      ∙ rw (drop-set digits (first - 1) x (omega (arith, h .long, h .within)), s, e) (rw (one-digit left g) at (h .same))
+      ∙ rw (drop-set digits (first - 1) x (omega (arith, h .long, h .within)), s, e) (rw (decimal-short left g) at (h .same))
 
   -- all are put
   pub digits-put : (x : ℕ) → x ≡ 48 + left → left < 10 → n < tooLong → {was page : List ℕ} {at next : ℕ}

@@ -93,19 +93,6 @@ length-ends s at most r h e p q =
     let u : at + suc r ≡ suc (at + r) = omega arith in
     sym (drop-drop r at s) ∙ (rw (← e) at n) ∙ ap (λ (l : List ℕ). 10 ∷ l) (drop-drop (suc r) at s ∙ ap (λ (j : ℕ). drop j s) u)
 
--- one byte more is kept behind those held
-pub keep-turn : (line₀ line bytes : List ℕ) (held i : ℕ) → length line ≡ length line₀ → held + length bytes ≤ length line₀ → i < length bytes
-    → take (held + i) line ≡ take held line₀ ++ take i bytes
-    → take (held + (i + 1)) (set line (held + i) (getD bytes i 0)) ≡ take held line₀ ++ take (i + 1) bytes
-keep-turn line₀ line bytes held i l w h e =
-    let b = getD bytes i 0 in
-    let p : held + (i + 1) ≡ suc (held + i) = omega arith in
-    ap (λ (k : ℕ). take k (set line (held + i) b)) p
-    ∙ take-suc-set line (held + i) b (omega arith)
-    ∙ ap (λ (z : List ℕ). z ++ (b ∷ [])) e
-    ∙ append-assoc (take held line₀) (take i bytes) (b ∷ [])
-    ∙ ap (λ (z : List ℕ). take held line₀ ++ z) (sym (take-suc bytes i 0 h) ∙ ap (λ (k : ℕ). take k bytes) (sym (add-one i)))
-
 module _ (line : List ℕ) where
   -- the first line does not begin with its word
   pub head-none : false ≡ wordAt traceWord line → BadHead ≡ headFound (after traceWord line)

@@ -1,5 +1,6 @@
 // Output written on a page: bytes, numbers, the rows of a listing, a whole listing, and a refusal.
 use crate::Page;
+use crate::rows;
 ghost use mathlib.Core.Path.{_≡_};
 ghost use mathlib.Core.List.{_++_, _∷_, []};
 ghost use Prim.Native.Nat.{_+_, _*_, _≤_};
@@ -7,20 +8,6 @@ ghost use lib.ListN.{length, take};
 ghost use Rattle.texts.specs.Digits.{decimal};
 ghost use Rattle.listing.specs.Listings.{atRow, atRows, listed, refusedText};
 ghost use Rattle.listing.specs.Pages.{Put, Counted, closing, lineEnd, missesBy, endRoom, numberRoom, rowRoom, pageBytes};
-
-// The bytes are written from place `at` on; the answer is the place after them.
-fn put(page: &mut [u8], at: usize, bytes: &[u8]) -> usize
-    requires { ⌜ at + length (now bytes) ≤ length (now page) ⌝ }
-    ensures { λ r. ⌜ Put (now (page .entry)) at (now (bytes .entry)) (now (page .exit)) r ⌝ }
-{
-    let mut i: usize = 0;
-    while i < bytes.len() {
-        let to = at + i;
-        page[to] = bytes[i];
-        i = i + 1;
-    }
-    at + i
-}
 
 // The byte of a digit.
 fn digit(n: u32) -> u8
@@ -45,7 +32,7 @@ fn put_number(page: &mut [u8], at: usize, n: u32) -> usize
     }
     first = first - 1;
     digits[first] = digit(left);
-    put(page, at, &digits[first..])
+    rows::put(page, at, &digits[first..])
 }
 
 // The brackets and the end of a row that `rows` more follow are written from place `at` on.
@@ -54,9 +41,9 @@ fn put_end(page: &mut [u8], at: usize, rows: usize) -> usize
     ensures { λ r. ⌜ Put (now (page .entry)) at (lineEnd (closing rows)) (now (page .exit)) r × (r ≤ at + endRoom) ⌝ }
 {
     if rows == 0 {
-        return put(page, at, b"))\n");
+        return rows::put(page, at, b"))\n");
     }
-    put(page, at, b")\n")
+    rows::put(page, at, b")\n")
 }
 
 // The row of one size, which `rows` more follow, is written from place `at` on.
@@ -64,9 +51,9 @@ fn put_at(page: &mut [u8], at: usize, size: u32, misses: u32, rows: usize) -> us
     requires { ⌜ at + rowRoom ≤ length (now page) ⌝ }
     ensures { λ r. ⌜ Put (now (page .entry)) at (atRow size misses (closing rows) ++ (10 ∷ [])) (now (page .exit)) r × (r ≤ at + rowRoom) ⌝ }
 {
-    let named = put(page, at, b" (at ");
+    let named = rows::put(page, at, b" (at ");
     let sized = put_number(page, named, size);
-    let spaced = put(page, sized, b" ");
+    let spaced = rows::put(page, sized, b" ");
     let missed = put_number(page, spaced, misses);
     put_end(page, missed, rows)
 }
@@ -95,9 +82,9 @@ fn put_listing(page: &mut [u8], reads: u32, counts: &[u32]) -> usize
     ensures { λ r. ⌜ (take r (now (page .exit)) ≡ listed reads (length (now (counts .entry))) (missesBy (now (counts .entry)))) × (r ≤ pageBytes) ⌝ }
 {
     let cold = counts.len();
-    let named = put(page, 0, b"(sizing\n (reads ");
+    let named = rows::put(page, 0, b"(sizing\n (reads ");
     let read = put_number(page, named, reads);
-    let between = put(page, read, b")\n (cold ");
+    let between = rows::put(page, read, b")\n (cold ");
     let counted = put_number(page, between, cold as u32);
     let closed = put_end(page, counted, cold);
     put_rows(page, closed, reads, counts)
@@ -108,9 +95,9 @@ fn put_refused(page: &mut [u8], n: u32) -> usize
     requires { ⌜ length (now page) ≡ pageBytes ⌝ }
     ensures { λ r. ⌜ (take r (now (page .exit)) ≡ refusedText n) × (r ≤ pageBytes) ⌝ }
 {
-    let named = put(page, 0, b"(refused ");
+    let named = rows::put(page, 0, b"(refused ");
     let numbered = put_number(page, named, n);
-    put(page, numbered, b")\n")
+    rows::put(page, numbered, b")\n")
 }
 
 // The page of a listing.

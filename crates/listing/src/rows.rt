@@ -1,9 +1,9 @@
-// Bytes of a piece: how many stand before the next end of a line, and bytes kept for later.
+// Bytes in rows: how many stand before the next end of a line, and bytes put at a place.
 ghost use mathlib.Core.Path.{_≡_};
 ghost use Prim.Native.Nat.{_+_, _≤_};
-ghost use lib.ListN.{length, take, drop};
-ghost use mathlib.Core.List.{_++_};
+ghost use lib.ListN.{length, drop};
 ghost use Rattle.listing.specs.Listers.{lineLength};
+ghost use Rattle.listing.specs.Pages.{Put};
 
 // How many bytes stand at `at` before the next byte 10, counted to at most `most`.
 pub fn line_length(s: &[u8], at: usize, most: usize) -> usize
@@ -24,15 +24,16 @@ pub fn line_length(s: &[u8], at: usize, most: usize) -> usize
     n
 }
 
-// The bytes are kept behind those held.
-pub fn keep(line: &mut [u8], held: usize, bytes: &[u8])
-    requires { ⌜ held + length (now bytes) ≤ length (now line) ⌝ }
-    ensures { λ _. ⌜ take (held + length (now (bytes .entry))) (now (line .exit)) ≡ take held (now (line .entry)) ++ now (bytes .entry) ⌝ }
+// The bytes are written from place `at` on; the answer is the place after them.
+pub fn put(page: &mut [u8], at: usize, bytes: &[u8]) -> usize
+    requires { ⌜ at + length (now bytes) ≤ length (now page) ⌝ }
+    ensures { λ r. ⌜ Put (now (page .entry)) at (now (bytes .entry)) (now (page .exit)) r ⌝ }
 {
     let mut i: usize = 0;
     while i < bytes.len() {
-        let to = held + i;
-        line[to] = bytes[i];
-        i += 1;
+        let to = at + i;
+        page[to] = bytes[i];
+        i = i + 1;
     }
+    at + i
 }

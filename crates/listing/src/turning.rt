@@ -66,7 +66,7 @@ fn end_line(
     if held == 0 {
         return taking::take_line(&bytes[at..end], phase, reads, extents, stack, counts);
     }
-    rows::keep(line, held, &bytes[at..end]);
+    rows::put(line, held, &bytes[at..end]);
     let n = held + (end - at);
     taking::take_line(&line[..n], phase, reads, extents, stack, counts)
 }
@@ -92,7 +92,7 @@ pub fn advance(
         return turned(bytes.len(), 0, Phase::Stopped(1), reads, extents);
     }
     if end == bytes.len() {
-        rows::keep(line, held, &bytes[at..end]);
+        rows::put(line, held, &bytes[at..end]);
         return turned(end, held + n, phase, reads, extents);
     }
     let p = end_line(

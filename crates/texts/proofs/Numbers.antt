@@ -21,13 +21,13 @@ decimal-bound (suc k) (suc j) n h g =
     by-test (ltb n 10) (λ e. rw e) (λ e. let b : 10 ≤ n = ltb-false n 10 e in rw (e, decimal-bound k j (n / 10) (omega arith) (omega arith)))
 
 -- a number of one digit
-decimal-short : (n : ℕ) → n < 10 → decimal n ≡ (48 + n) ∷ []
+pub decimal-short : (n : ℕ) → n < 10 → decimal n ≡ (48 + n) ∷ []
 unfolding decimal decimalBy
 decimal-short zero h = refl
 decimal-short (suc n) h = rw (lt-ltb (suc n) 10 (omega arith))
 
 -- a number of more: all but the last digit, then that
-decimal-long : (n : ℕ) → 10 ≤ n → decimal n ≡ decimal (n / 10) ++ ((48 + n % 10) ∷ [])
+pub decimal-long : (n : ℕ) → 10 ≤ n → decimal n ≡ decimal (n / 10) ++ ((48 + n % 10) ∷ [])
 unfolding decimal decimalBy
 decimal-long zero h = absurd (omega arith)
 decimal-long (suc n) h = rw (le-ltb (suc n) 10 h, decimal-bound n (suc n / 10) (suc n / 10) (omega arith) (omega arith))

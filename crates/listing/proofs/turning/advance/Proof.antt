@@ -42,17 +42,17 @@ returns c =
     let n = c .before .before .line-length in
     turn-long (a .args .bytes .now) (a .args .at) (a .args .line .now) (a .args .held) (a .args .phase) (a .args .reads) (a .args .extents) (a .args .stack .now) (a .args .counts .now) (a .pre) (n .result) (n .ensures) (omega arith) (c .turned .result) (c .turned .ensures)
 
-sub-keep : tie.Need-sub-keep
-sub-keep c = search needs
+sub-put : tie.Need-sub-put
+sub-put c = search needs
 
-part-keep-start : tie.Need-part-keep-start
-part-keep-start c = search needs
+part-put-start : tie.Need-part-put-start
+part-put-start c = search needs
 
-part-keep-end : tie.Need-part-keep-end
-part-keep-end c = search needs
+part-put-end : tie.Need-part-put-end
+part-put-end c = search needs
 
-keep-requires : tie.Need-keep-requires
-keep-requires c κs = search needs
+put-requires : tie.Need-put-requires
+put-requires c κs = search needs
 
 add-turned : tie.Need-add-turned
 add-turned c = search needs
@@ -67,12 +67,12 @@ returns-2 : tie.Need-returns-2
 returns-2 c =
     let a = c .before .before .before .before .before .before .before .before .before .before .before .before .before in
     let n = c .before .before .before .before .before .before .before .before .line-length in
-    let k = c .before .before .before .keep in
+    let k = c .before .before .before .put in
     let i : a .args .at + n .result - a .args .at ≡ n .result = omega arith in
     let m = midOf (a .args .at) (a .args .at + n .result - a .args .at) (a .args .bytes .now) in
     let l : length m ≡ n .result = mid-len (a .args .at) (a .args .at + n .result) (a .args .bytes .now) (within (c .before .before .before .before .before .before .before .before) .0) ∙ i in
     let f : take (a .args .held + n .result) (k .last .0) ≡ take (a .args .held) (a .args .line .now) ++ take (n .result) (drop (a .args .at) (a .args .bytes .now)) =
-    ap (λ (j : ℕ). take (a .args .held + j) (k .last .0)) (sym l) ∙ k .ensures ∙ ap (λ (j : ℕ). take (a .args .held) (a .args .line .now) ++ take j (drop (a .args .at) (a .args .bytes .now))) i in
+    ap (λ (j : ℕ). take (a .args .held + j) (k .last .0)) (sym l) ∙ ap (λ (j : ℕ). take j (k .last .0)) (sym (k .ensures .past)) ∙ k .ensures .front ∙ ap (λ (j : ℕ). take (a .args .held) (a .args .line .now) ++ take j (drop (a .args .at) (a .args .bytes .now))) i in
     turn-kept (a .args .bytes .now) (a .args .at) (a .args .line .now) (a .args .held) (a .args .phase) (a .args .reads) (a .args .extents) (a .args .stack .now) (a .args .counts .now) (a .pre) (n .result) (n .ensures) (omega arith) (omega arith) (k .last .0) f (c .turned2 .result) (c .turned2 .ensures)
 
 end-line-requires : tie.Need-end-line-requires
@@ -142,10 +142,10 @@ advance-spec =
     add-if1
     turned-requires
     returns
-    sub-keep
-    part-keep-start
-    part-keep-end
-    keep-requires
+    sub-put
+    part-put-start
+    part-put-end
+    put-requires
     add-turned
     turned-requires-2
     same-length

@@ -37,17 +37,17 @@ returns c =
     let z : a .args .held ≡ 0 = omega arith in
     (e .0 ∙ ap (λ (k : ℕ). andThen (takenBy (a .args .phase) (tallyIn (a .args .reads) (a .args .extents) (a .args .stack .now) (a .args .counts .now))) (take k (a .args .line .now) ++ m)) (sym z), e .1)
 
-sub-keep : tie.Need-sub-keep
-sub-keep c = search needs
+sub-put : tie.Need-sub-put
+sub-put c = search needs
 
-part-keep-start : tie.Need-part-keep-start
-part-keep-start c = search needs
+part-put-start : tie.Need-part-put-start
+part-put-start c = search needs
 
-part-keep-end : tie.Need-part-keep-end
-part-keep-end c = search needs
+part-put-end : tie.Need-part-put-end
+part-put-end c = search needs
 
-keep-requires : tie.Need-keep-requires
-keep-requires c κs = search needs
+put-requires : tie.Need-put-requires
+put-requires c κs = search needs
 
 sub-n : tie.Need-sub-n
 sub-n c = search needs
@@ -61,7 +61,7 @@ slice-reshare-prefix-take-line c = search needs
 slice-aggregate-take-line : tie.Need-slice-aggregate-take-line
 slice-aggregate-take-line c =
     let a = c .before .before .before .before .before .before .before .before .before .before .before in
-    sym (length-take-le _ _ (omega (arith, c .before .before .before .keep .kept .0, a .pre .fits)))
+    sym (length-take-le _ _ (omega (arith, c .before .before .before .put .kept .0, a .pre .fits)))
 
 take-line-requires-2 : tie.Need-take-line-requires-2
 take-line-requires-2 c κs = search needs
@@ -78,12 +78,12 @@ same-length-5 c = search needs
 returns-2 : tie.Need-returns-2
 returns-2 c =
     let a = c .before .before .before .before .before .before .before .before .before .before .before .before .before .before .before .before .before .before in
-    let k = c .before .before .before .before .before .before .before .before .before .before .keep in
+    let k = c .before .before .before .before .before .before .before .before .before .before .put in
     let e = c .before .before .before .before .take-line2 .ensures in
     let m = midOf (a .args .at) (a .args .end - a .args .at) (a .args .bytes .now) in
     let l : length m ≡ a .args .end - a .args .at = mid-len (a .args .at) (a .args .end) (a .args .bytes .now) (a .pre .inside) in
     let f : take (a .args .held + (a .args .end - a .args .at)) (k .last .0) ≡ take (a .args .held) (a .args .line .now) ++ m =
-    ap (λ (i : ℕ). take (a .args .held + i) (k .last .0)) (sym l) ∙ k .ensures in
+    ap (λ (i : ℕ). take (a .args .held + i) (k .last .0)) (sym l) ∙ ap (λ (i : ℕ). take i (k .last .0)) (sym (k .ensures .past)) ∙ k .ensures .front in
     (e .0 ∙ ap (λ (v : List ℕ). andThen (takenBy (a .args .phase) (tallyIn (a .args .reads) (a .args .extents) (a .args .stack .now) (a .args .counts .now))) v) f, e .1)
 
 pub end-line-spec : {M : Type 1} → statement M
@@ -97,10 +97,10 @@ end-line-spec =
     same-length
     same-length-2
     returns
-    sub-keep
-    part-keep-start
-    part-keep-end
-    keep-requires
+    sub-put
+    part-put-start
+    part-put-end
+    put-requires
     sub-n
     add-n
     slice-reshare-prefix-take-line

@@ -1,11 +1,11 @@
--- `listing::printing::put` meets its contract. The invariant is `Copying`.
+-- `listing::rows::put` meets its contract. The invariant is `Copying`.
 use Prim.Native.Nat.{_-_}
 use native.Mathlib.Omega.{arith}
 use lib.ListN.{length}
 use Rattle.listing.proofs.PageLaws.{Copying, copy-start, copy-turn, copy-end}
 use borrow.Author.Needs.{needs}
-use Rattle.listing.proofs.printing.put.Statement.{statement}
-use Rattle.listing.proofs.printing.put.Tie as tie
+use Rattle.listing.proofs.rows.put.Statement.{statement}
+use Rattle.listing.proofs.rows.put.Tie as tie
 
 abbrev Inv-loop : tie.InvT-loop
 Inv-loop page₀ at bytes i₀ page i = Copying page₀ at bytes page i
