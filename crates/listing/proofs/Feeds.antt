@@ -3,7 +3,7 @@ use mathlib.Core.Path.{_≡_, refl, sym, ap, _∙_}
 use Prim.Native.Nat.{ℕ, _+_, _-_, _≤_, _<_}
 use native.Mathlib.Omega.{arith}
 use mathlib.Core.List.{List, []}
-use mathlib.Core.Bool.{Bool, true, false, cond, _&&_}
+use mathlib.Core.Bool.{Bool, true, false, cond, not, _&&_}
 use lib.Dec.{leb, eqb}
 use lib.ListN.{length, take, drop}
 use borrow.Author.Tests.{le-leb, eq-eqb}
@@ -51,6 +51,17 @@ refused-stays l n bytes e = e ∙ sym (ap (λ (s : State). unnumbered (takePiece
 -- a refused lister does
 pub stopped-stays : (l : Lister) (bytes : List ℕ) → isStopped (l .phase) ≡ true → stateOf l ≡ unnumbered (takePiece (stateOf l) bytes)
 stopped-stays l bytes h = let s = stop-is l h in refused-stays l (s .0) bytes (s .1)
+
+-- a lister that is refused or not sound stays as it is
+pub idle-stays : (l : Lister) (bytes : List ℕ) → (not (isStopped (l .phase)) && soundLister l) ≡ false → stateOf l ≡ unnumbered (takePiece (stateOf l) bytes)
+unfolding stateOf
+idle-stays l bytes e =
+    by-test (isStopped (l .phase)) (λ s. stopped-stays l bytes s)
+    (λ s. refused-stays l 7 bytes (let u : soundLister l ≡ false = (simp s at e) in rw u))
+
+-- another goes on and is sound
+pub goes-on : (l : Lister) → (not (isStopped (l .phase)) && soundLister l) ≡ true → (isStopped (l .phase) ≡ false) × (soundLister l ≡ true)
+goes-on l e = by-test (isStopped (l .phase)) (λ s. let z : false ≡ true = (simp s at e) in never (cc)) (λ s. (s, (simp s at e)))
 
 -- a piece taken as far as a place: what is left of it does from here what the whole does from the start
 pub record Fed (bytes : List ℕ) (start : State) (phase : Phase) (line : List ℕ) (held reads extents : ℕ) (stack counts : List ℕ) (pos : ℕ) : Type 0 where

@@ -9,10 +9,11 @@ mod turning;
 ghost use mathlib.Core.Path.{_≡_};
 ghost use mathlib.Core.List.{[]};
 ghost use Prim.Native.Nat.{_≤_};
+ghost use mathlib.Core.Bool.{not, _&&_};
 ghost use lib.ListN.{take};
 ghost use Rattle.texts.specs.Lines.{at};
 ghost use Rattle.listing.specs.Feeding.{empty, takePiece, printedAt};
-ghost use Rattle.listing.specs.Listers.{soundLister, stateOf, unnumbered};
+ghost use Rattle.listing.specs.Listers.{isStopped, soundLister, stateOf, unnumbered};
 ghost use Rattle.listing.specs.Pages.{pageBytes};
 
 // The bytes of a page.
@@ -81,17 +82,25 @@ impl Lister {
         v as u64 + checks::total(&counts[..v]) == self.reads as u64
     }
 
+    // Whether the lister is sound and its text not refused.
+    fn goes(self) -> bool
+        ensures { λ r. ⌜ r ≡ (not (isStopped (self .phase)) && soundLister self) ⌝ }
+    {
+        let phase = self.phase;
+        if turning::stopped(phase) {
+            return false;
+        }
+        self.sound()
+    }
+
     // One piece of the text more. A lister that is not sound, or that is refused, stays as it is.
     pub fn feed(self, bytes: &[u8]) -> Lister
         ensures { λ r. ⌜ stateOf r ≡ unnumbered (takePiece (stateOf self) (now (bytes .entry))) ⌝ }
     {
+        if !self.goes() {
+            return self;
+        }
         let mut phase = self.phase;
-        if turning::stopped(phase) {
-            return self;
-        }
-        if !self.sound() {
-            return self;
-        }
         let mut line = self.line;
         let mut held = self.held;
         let mut reads = self.reads;

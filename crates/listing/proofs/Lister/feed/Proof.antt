@@ -6,9 +6,9 @@ use mathlib.Core.Bool.{true, false}
 use lib.ListN.{length, take}
 use borrow.Author.Tests.{not-true, not-false}
 use Rattle.listing.specs.Feeding.{State, takePiece}
-use Rattle.listing.specs.Listers.{stateIn, unnumbered, soundLister}
-use Rattle.listing.proofs.Feeds.{refused-stays, stopped-stays, Fed, fed-start, fed-more, fed-turn, fed-end}
-use Rattle.listing.proofs.Soundness.{sound-facts, state-sound, state-unsound}
+use Rattle.listing.specs.Listers.{stateIn, unnumbered, isStopped, soundLister}
+use Rattle.listing.proofs.Feeds.{idle-stays, goes-on, Fed, fed-start, fed-more, fed-turn, fed-end}
+use Rattle.listing.proofs.Soundness.{sound-facts, state-sound}
 use borrow.Author.Needs.{needs}
 use Rattle.listing.proofs.Lister.feed.Statement.{statement}
 use Rattle.listing.proofs.Lister.feed.Tie as tie
@@ -20,29 +20,23 @@ Inv-loop bytes phase₀ line₀ held₀ reads₀ extents₀ stack₀ counts₀ a
 abbrev μ-loop : tie.MeasureT-loop
 μ-loop bytes phase₀ line₀ held₀ reads₀ extents₀ stack₀ counts₀ at₀ phase line held reads extents stack counts at = length bytes - at
 
--- the lister is sound
-sound-is : (c : tie.Else2 Inv-loop μ-loop) → soundLister (c .before .before .before .before .before .args .self) ≡ true
-sound-is c = sym (c .before .sound .ensures) ∙ not-false (c .before .sound .result) (c .if2 .left)
+-- the lister goes on and is sound
+sound-is : (c : tie.Else1 Inv-loop μ-loop) → (isStopped (c .before .before .before .args .self .phase) ≡ false) × (soundLister (c .before .before .before .args .self) ≡ true)
+sound-is c = goes-on (c .before .before .before .args .self) (sym (c .before .goes .ensures) ∙ not-false (c .before .goes .result) (c .if1 .left))
 
-stopped-requires : tie.Need-stopped-requires Inv-loop μ-loop
-stopped-requires c κs = search needs
+goes-requires : tie.Need-goes-requires Inv-loop μ-loop
+goes-requires c κs = search needs
 
 returns : tie.Need-returns Inv-loop μ-loop
-returns c = let a = c .before .before .before .args in stopped-stays (a .self) (a .bytes .now) (sym (c .before .stopped .ensures) ∙ c .if1 .taken)
-
-sound-requires : tie.Need-sound-requires Inv-loop μ-loop
-sound-requires c κs = search needs
-
-returns-2 : tie.Need-returns-2 Inv-loop μ-loop
-returns-2 c = let a = c .before .before .before .before .before .args in refused-stays (a .self) 7 (a .bytes .now) (state-unsound (a .self) (sym (c .before .sound .ensures) ∙ not-true (c .before .sound .result) (c .if2 .taken)))
+returns c = let a = c .before .before .before .args in idle-stays (a .self) (a .bytes .now) (sym (c .before .goes .ensures) ∙ not-true (c .before .goes .result) (c .if1 .taken))
 
 loop-holds : tie.Need-loop-holds Inv-loop μ-loop
 loop-holds c =
-    let a = c .before .before .before .before .before .before .before .before .args in
+    let a = c .before .before .before .before .before .before .args in
     let s = sound-is (c .before .before .before) in
-    let f = sound-facts (a .self) s (search needs) (search needs) in
+    let f = sound-facts (a .self) (s .1) (search needs) (search needs) in
     fed-start (a .bytes .now) (stateIn (a .self .phase) (a .self .reads) (a .self .extents) (a .self .stack) (a .self .counts) (take (a .self .held) (a .self .line))) (a .self .phase) (a .self .line) (a .self .held) (a .self .reads) (a .self .extents) (a .self .stack) (a .self .counts)
-    refl (f .0) (search needs) (f .1) (sym (c .before .before .before .before .before .before .stopped .ensures) ∙ c .before .before .before .before .before .if1 .left)
+        refl (f .0) (search needs) (f .1) (s .0)
 
 slice-aggregate-advance : tie.Need-slice-aggregate-advance Inv-loop μ-loop
 slice-aggregate-advance c = sym (c .before .before .loop .inv .wide)
@@ -64,10 +58,10 @@ loop-again c =
     let e = c .before .before .before .advance in
     fed-turn _ _ _ _ _ _ _ _ _ _ (c .before .before .before .before .before .before .before .before .loop .inv) (e .result) (e .last .1 .1 .0) (e .last .1 .1 .1 .1 .1 .1 .1 .0) (e .last .1 .1 .1 .1 .1 .1 .1 .1 .0) (e .kept .1 .1 .0) (e .ensures)
 
-returns-3 : tie.Need-returns-3 Inv-loop μ-loop
-returns-3 c =
-    let a = c .before .before .before .before .before .before .before .before .before .before .args in
-    let s = sound-is (c .before .before .before .before .before) in
+returns-2 : tie.Need-returns-2 Inv-loop μ-loop
+returns-2 c =
+    let a = c .before .before .before .before .before .before .before .before .args in
+    let s = sound-is (c .before .before .before .before .before) .1 in
     fed-end _ _ _ _ _ _ _ _ _ _ (c .before .loop .inv) (omega arith) _ refl ∙ ap (λ (v : State). unnumbered (takePiece v (a .bytes .now))) (sym (state-sound (a .self) s))
 
 pub feed-spec : {M : Type 1} → statement M
@@ -76,10 +70,8 @@ feed-spec =
     (tie.spec
     Inv-loop
     μ-loop
-    stopped-requires
+    goes-requires
     returns
-    sound-requires
-    returns-2
     loop-holds
     slice-aggregate-advance
     slice-aggregate-advance-2
@@ -87,4 +79,4 @@ feed-spec =
     advance-requires
     loop-less
     loop-again
-    returns-3)
+    returns-2)
