@@ -36,7 +36,7 @@ loop-holds c =
     let s = sound-is (c .before .before .before) in
     let f = sound-facts (a .self) (s .1) (search needs) (search needs) in
     fed-start (a .bytes .now) (stateIn (a .self .phase) (a .self .reads) (a .self .extents) (a .self .stack) (a .self .counts) (take (a .self .held) (a .self .line))) (a .self .phase) (a .self .line) (a .self .held) (a .self .reads) (a .self .extents) (a .self .stack) (a .self .counts)
-        refl (f .0) (search needs) (f .1) (s .0)
+    refl (f .0) (search needs) (f .1) (s .0)
 
 slice-aggregate-advance : tie.Need-slice-aggregate-advance Inv-loop μ-loop
 slice-aggregate-advance c = sym (c .before .before .loop .inv .wide)
