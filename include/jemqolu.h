@@ -1,0 +1,116 @@
+/* LRU reuse distances of a log of extents, by a proved library: what C calls.
+ *
+ * A log is a list of extents in the order read; an extent is a number of 32 bits. A summary is a run of 32-bit words:
+ * the reads L, the number v of different extents, then v words F (the extents by first read), v words R (by last read,
+ * the latest first) and v words H (the word for d counts the reads of reuse distance d): 2 + 3 v words in all.
+ *
+ * Every call takes any input. A slice is a pointer and then how many elements it has; a length of 0 may come with any
+ * pointer that is not NULL, and no pointer may be NULL. What a call writes to must overlap nothing else that it is lent.
+ *
+ * An answer of 0 or more is what was asked for. A negative answer is a refusal, the negative of its number, and leaves
+ * everything lent as it was:
+ *   -1  a text line with which no text of the rule can go on, or an end too early
+ *   -2  in a text an extent above 4,294,967,295 or a seg above 1,048,576; a distance above 256 given to a watch
+ *   -3  the segs of a plan do not add up to the log
+ *   -4  a plan text over 65,536 bytes, a ninth join open, a seventeenth part of one join
+ *   -5  words that are not a well-formed summary
+ *   -6  fewer words or bytes lent than the answer needs
+ *   -7  words that are not a sound session or watch, too few of them among these
+ *   -8  more than 1,048,576 reads would result
+ *   -9  more than 256 different extents would result
+ * What a call writes stands at the front of the buffer lent; what lies past it keeps its contents. */
+#ifndef JEMQOLU_H
+#define JEMQOLU_H
+
+#include <stddef.h>
+#include <stdint.h>
+
+#ifdef __cplusplus
+extern "C" {
+#endif
+
+/* The limits, and lengths that always suffice. */
+#define JEMQOLU_MAX_READS 1048576
+#define JEMQOLU_MAX_EXTENTS 256
+#define JEMQOLU_SUMMARY_WORDS 770 /* 2 + 3 * 256: any summary */
+#define JEMQOLU_WORK_WORDS 12320  /* 1,540 * 8: any plan */
+#define JEMQOLU_LISTING_BYTES 8192 /* any listing */
+#define JEMQOLU_SESSION_WORDS 2049 /* a session */
+#define JEMQOLU_WATCH_WORDS 4      /* a watch */
+
+/* The summary of a list of reads, a whole part in one call.
+ * Lent: the reads; `out`, as many words as the summary has. Answer: the words written. Refusals, in order: -8, -9, -6. */
+int64_t jemqolu_summarize(const uint32_t *reads, size_t reads_len, uint32_t *out, size_t out_len);
+
+/* The summary of A, then B.
+ * Lent: both summaries; `out`, as many words as the joined one has. Answer: the words written.
+ * Refusals, in order: -5 for A, -5 for B, -8, -9, -6. */
+int64_t jemqolu_join(const uint32_t *a, size_t a_len, const uint32_t *b, size_t b_len, uint32_t *out, size_t out_len);
+
+/* The reuse distances of a part's reads as in the whole log, from the summary of all that was read before the part.
+ * Lent: the prefix's summary (two words 0 for none); the part's reads; `out`, a word a read, 0 for a cold read.
+ * Answer: the words written, as many as there are reads. Refusals, in order: -5, -8, -9, -6. */
+int64_t jemqolu_distances(const uint32_t *prefix, size_t prefix_len, const uint32_t *reads, size_t reads_len,
+                          uint32_t *out, size_t out_len);
+
+/* The misses of a cache of `size` extents that reads the summary's log. Lent: the summary. Refusal: -5. */
+int64_t jemqolu_misses(const uint32_t *words, size_t words_len, uint32_t size);
+
+/* The hits of such a cache divided by all reads, written to `*share`.
+ * Lent: the summary; one double. Answer: 1, or 0 with `*share` unchanged where there are no reads. Refusal: -5. */
+int64_t jemqolu_share(const uint32_t *words, size_t words_len, uint32_t size, double *share);
+
+/* A joining plan carried out on a log: the log's summary, its parts summarized and joined as the plan's text says.
+ * Lent: the plan's text; the log; `work`, 1,540 words for each level of joins, which are 0 afterwards; `out`, as many
+ * words as the summary has. Answer: the words written. Refusals, in order: -4 for the text's length; the earliest faulty
+ * line's, on one line -1, -2, -4; then -3, -8, -9, -6. */
+int64_t jemqolu_plan(const uint8_t *text, size_t text_len, const uint32_t *log, size_t log_len,
+                     uint32_t *work, size_t work_len, uint32_t *out, size_t out_len);
+
+/* The listing of a log text: its reads, its cold reads, and for every size from 1 to its extents the misses.
+ * Lent: the text; `out`, as many bytes as the listing has. Answer: the bytes written, no 0 after them.
+ * Refusals: the earliest faulty line's, on one line -1, -2, -8, -9; then -6. */
+int64_t jemqolu_list(const uint8_t *text, size_t text_len, uint8_t *out, size_t out_len);
+
+/* A session is 2,049 words with the caller, who may keep and copy them:
+ *   word 0            L, the reads accepted
+ *   words 1..256      F, the extents by first read, 0 after them
+ *   words 257..512    H, word 256 + d counts the reads of distance d
+ *   words 513..1024   512 slots: an extent stands in the slot of its last read, 0 in the others
+ *   words 1025..2047  1,023 sums: 512 leaves, 1 for a marked slot; the parent of p is 512 + p / 2; the last is the root
+ *   word 2048         the next slot
+ * Words lent past these are neither read nor written. */
+
+/* A new session. Lent: 2,049 words. Answer: 2,049. Refusal: -6. */
+int64_t jemqolu_session_new(uint32_t *session, size_t session_len);
+
+/* One more read. Lent: the session, which is changed there; one word for the number of sums that the read looked at,
+ * 0 for a cold read. Answer: the reuse distance, 0 for a cold read. Refusals, in order: -7, -8, -9. */
+int64_t jemqolu_session_read(uint32_t *session, size_t session_len, uint32_t extent, uint32_t *sums_read);
+
+/* The summary of the reads accepted.
+ * Lent: the session; `out`, as many words as the summary has. Answer: the words written. Refusals, in order: -7, -6. */
+int64_t jemqolu_session_summary(const uint32_t *session, size_t session_len, uint32_t *out, size_t out_len);
+
+/* A watch on one cache size is 4 words with the caller: the size, the reads, the cold reads, the hits.
+ * Words lent past these are neither read nor written. */
+
+/* A new watch on a size. Lent: 4 words. Answer: 4. Refusal: -6. */
+int64_t jemqolu_watch_new(uint32_t size, uint32_t *watch, size_t watch_len);
+
+/* One more read's distance, as jemqolu_session_read answers and jemqolu_distances writes it: 0 for a cold read.
+ * Lent: the watch, which is changed there. Answer: 0. Refusals, in order: -7, -2, -8. */
+int64_t jemqolu_watch_read(uint32_t *watch, size_t watch_len, uint32_t distance);
+
+/* The misses so far, reads less hits. Lent: the watch. Refusal: -7. */
+int64_t jemqolu_watch_misses(const uint32_t *watch, size_t watch_len);
+
+/* The hits divided by all reads so far, written to `*share`.
+ * Lent: the watch; one double. Answer: 1, or 0 with `*share` unchanged where there are no reads. Refusal: -7. */
+int64_t jemqolu_watch_share(const uint32_t *watch, size_t watch_len, double *share);
+
+#ifdef __cplusplus
+}
+#endif
+
+#endif
