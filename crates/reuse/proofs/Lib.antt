@@ -18,4 +18,5 @@ pub mod Runs
 pub mod Traces
 pub mod Laying
 pub mod Slices
+pub mod Puts
 pub mod Examples

@@ -1,4 +1,6 @@
 // Reuse distances: the definitions, their laws, and the engine of all batch work, an LRU stack in a lent slice.
+pub mod rows;
+
 ghost use mathlib.Core.Path.{_≡_};
 ghost use mathlib.Core.List.{[], _∷_, _++_};
 ghost use Prim.Native.Nat.{suc, min};

@@ -3,15 +3,11 @@ use Prim.Native.Nat.{ℕ, suc, _+_, _*_, _≤_, _<_, _^_}
 use mathlib.Core.Path.{_≡_}
 use mathlib.Core.List.{List, _++_, foldl}
 use mathlib.Core.Bool.{true}
-use lib.ListN.{length, take, drop, getD}
+use lib.ListN.{length, take, getD}
 use Rattle.reuse.specs.Limits.{maxReads, maxExtents}
 use Rattle.reuse.specs.Lists.{outside, distinct, from}
 use Rattle.reuse.specs.Lru.{Reuse, touch, countAt}
 use Rattle.reuse.specs.Summary.{wellFormed, readsOf, joinedFirst, joinedCount}
-
--- the words l from place `at` on, the others as they were
-unfoldable pub putAt : List ℕ → ℕ → List ℕ → List ℕ
-putAt o at l = take at o ++ (l ++ drop (at + length l) o)
 
 -- s, then those of t that are not in it: F and R of a join are such rows
 unfoldable pub beside : List ℕ → List ℕ → List ℕ

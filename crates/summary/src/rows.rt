@@ -4,7 +4,8 @@ ghost use Prim.Native.Nat.{ℕ, _+_, _≤_, _<_, _^_};
 ghost use lib.ListN.{length, getD};
 ghost use Rattle.reuse.specs.Lists.{distinct, allIn, sum, outside};
 ghost use Rattle.reuse.specs.Summary.{hitsOf};
-ghost use Rattle.summary.specs.Rows.{putAt, beside, Added, Given};
+ghost use Rattle.reuse.specs.Rows.{putAt};
+ghost use Rattle.summary.specs.Rows.{beside, Added, Given};
 
 // No word stands twice.
 pub fn all_distinct(s: &[u32]) -> bool
@@ -85,13 +86,8 @@ pub fn put(out: &mut [u32], at: usize, s: &[u32]) -> usize
     requires { ⌜ at + length (now s) ≤ length (now out) ⌝ }
     ensures { λ r. ⌜ (r ≡ at + length (now (s .entry))) × (now (out .exit) ≡ putAt (now (out .entry)) at (now (s .entry))) ⌝ }
 {
-    let mut i: usize = 0;
-    while i < s.len() {
-        let to = at + i;
-        out[to] = s[i];
-        i = i + 1;
-    }
-    at + i
+    reuse::rows::put(out, at, s);
+    at + s.len()
 }
 
 // The words of the row that do not stand in `known` are written from place `at` on; the answer is the place after them.

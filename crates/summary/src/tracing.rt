@@ -2,8 +2,8 @@
 use crate::rows;
 use reuse::Place;
 ghost use mathlib.Core.Path.{_≡_};
+ghost use Rattle.reuse.specs.Rows.{putAt};
 ghost use Rattle.reuse.specs.Summary.{words};
-ghost use Rattle.summary.specs.Rows.{putAt};
 ghost use Rattle.summary.specs.Tracing.{Blank, Taken, Writable};
 
 // The trace is taken from an empty stack: each new extent is listed in `first`, and each distance counted in `hist`.

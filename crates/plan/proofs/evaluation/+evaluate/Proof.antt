@@ -7,6 +7,7 @@ use lib.ListN.{length, take, drop}
 use lib.Seq.{length-take-le}
 use borrow.Rule.Slice.PartMut.{putMid, midOf}
 use Rattle.reuse.specs.Lists.{firsts}
+use Rattle.reuse.proofs.Puts.{placed-fits}
 use Rattle.summary.specs.Calls.{Wrote, traceCall}
 use Rattle.texts.specs.Plans.{reads}
 use Rattle.texts.specs.PlanPlaces.{segAt, joinAt, lineAt}
@@ -28,7 +29,7 @@ use Rattle.plan.proofs.evaluation.join_held.Reads as join-held-reads
 use Rattle.plan.proofs.evaluation.past.Reads as past-reads
 use Rattle.summary.proofs.of_trace.Reads as of-trace-reads
 use Rattle.plan.proofs.lines.line_at.Reads as line-at-reads
-use Rattle.plan.proofs.rows.copy.Reads as copy-reads
+use Rattle.reuse.proofs.rows.put.Reads as put-reads
 use Rattle.plan.proofs.evaluation.+evaluate.{statement}
 use Rattle.plan.proofs.evaluation.+evaluate.Tie.{close}
 
@@ -54,8 +55,8 @@ evaluate-claims t = (
   count-of-reads.Learnt,
   evaluate-below t,
   evaluate.Post,
-  copy-reads.Asked,
-  copy-reads.Learnt,
+  put-reads.Asked,
+  put-reads.Learnt,
   join-held-reads.Asked,
   join-held-reads.Learnt,
 )
@@ -166,7 +167,7 @@ room-first : (t : ℕ) (c : evaluate-lts.After-slice-known5 (evaluate-claims t) 
 room-first t c = omega (arith, out-wide t c, c .before .before .before .before .before .before .before .before .before .before .before .before .before .before .before .pre .1 .1 .room)
 
 -- the words held at the front of the output, before another part
-held-is : (t : ℕ) (c : evaluate-lts.After-copy-arg (evaluate-claims t) (evaluate-at t) evaluate.Post evaluate-Inv-loop evaluate-μ-loop) →
+held-is : (t : ℕ) (c : evaluate-lts.After-put-arg (evaluate-claims t) (evaluate-at t) evaluate.Post evaluate-Inv-loop evaluate-μ-loop) →
     let l = c .before .before .before .loop in
     (l .done .words ≤ 770) × (l .done .words ≤ length (l .out))
 held-is t c =
@@ -178,8 +179,17 @@ held-is t c =
     (positive t (k .before .before .before .before .before .before .before .before)) (levels-first t k) (l .done) (l .work) (l .out) (l .inv .2 r) (a .pre .1 .1 .within) (l .inv .0) (l .inv .1) (room-first t k) in
     (h .0, h .1)
 
+-- they fit the words of this level
+held-fits : (t : ℕ) (c : evaluate-lts.After-put-arg (evaluate-claims t) (evaluate-at t) evaluate.Post evaluate-Inv-loop evaluate-μ-loop) →
+    let l = c .before .before .before .loop in
+    0 + length (take (l .done .words) (l .out)) ≤ length (l .work)
+held-fits t c =
+    let k = c .before .before .before .before in
+    let l = c .before .before .before .loop in
+    omega (arith, length-take-le (l .done .words) (l .out) (held-is t c .1), held-is t c .0, l .inv .0, levels-first t k, positive t (k .before .before .before .before .before .before .before .before))
+
 -- the next part
-abbrev next-is : (t : ℕ) (c : evaluate-lts.After-copy-arg (evaluate-claims t) (evaluate-at t) evaluate.Post evaluate-Inv-loop evaluate-μ-loop) →
+abbrev next-is : (t : ℕ) (c : evaluate-lts.After-put-arg (evaluate-claims t) (evaluate-at t) evaluate.Post evaluate-Inv-loop evaluate-μ-loop) →
     let a = c .before .before .before .before .before .before .before .before .before .before .before .before .before .before .before .before .before .before .before .args in
     let l = c .before .before .before .loop in
     (r : Ready (a .s .now) (a .at) (a .under) (a .log .now) (a .from) (a .left))
@@ -193,7 +203,7 @@ next-is t c r =
 part-is : (t : ℕ) (c : evaluate-lts.After-join-held-arg2 (evaluate-claims t) (evaluate-at t) evaluate.Post evaluate-Inv-loop evaluate-μ-loop) →
     let a = c .before .before .before .before .before .before .before .before .before .before .before .before .before .before .before .before .before .before .before .before .before .before .before .before .before .before .before .before .before .before .before .before .args in
     let l = c .before .before .before .before .before .before .before .before .before .before .before .before .before .before .before .before .loop in
-    let w = c .before .before .before .before .before .before .before .before .before .before .before .copy .last .0 in
+    let w = c .before .before .before .before .before .before .before .before .before .before .before .put .last .0 in
     let e = c .before .before .before .before .before .before .evaluate2 in
     (r : Ready (a .s .now) (a .at) (a .under) (a .log .now) (a .from) (a .left))
     → let n = next-is t (c .before .before .before .before .before .before .before .before .before .before .before .before .before) r in
@@ -204,11 +214,11 @@ part-is t c r =
     c .before .before .before .before .before .before .evaluate2 .ensures (ready-next (a .s .now) (l .done .next) (a .under) (a .log .now) (l .done .taken) (a .left) (r .closes) (r .rest) (a .from + reads (r .plan)) (next-is t (c .before .before .before .before .before .before .before .before .before .before .before .before .before) r) (r .covered))
 
 -- the words lent below come back as many again
-again-back : (t : ℕ) (c : evaluate-lts.After-join-held-arg2 (evaluate-claims t) (evaluate-at t) evaluate.Post evaluate-Inv-loop evaluate-μ-loop) → length (c .before .before .before .before .before .before .evaluate2 .last .1 .1 .1 .1 .1 .1 .0) ≡ length (c .before .before .before .before .before .before .before .before .before .before .before .copy .last .0) - 1540
+again-back : (t : ℕ) (c : evaluate-lts.After-join-held-arg2 (evaluate-claims t) (evaluate-at t) evaluate.Post evaluate-Inv-loop evaluate-μ-loop) → length (c .before .before .before .before .before .before .evaluate2 .last .1 .1 .1 .1 .1 .1 .0) ≡ length (c .before .before .before .before .before .before .before .before .before .before .before .put .last .0) - 1540
 again-back t c =
     let a = c .before .before .before .before .before .before .before .before .before .before .before .before .before .before .before .before .before .before .before .before .before .before .before .before .before .before .before .before .before .before .before .before in
     let k = c .before .before .before .before .before .before .before .before .before .before .before .before .before .before .before .before .before in
-    c .before .before .before .before .before .before .evaluate2 .kept .1 .1 .1 .1 .1 .1 .0 ∙ below-long (c .before .before .before .before .before .before .before .before .before .before .before .copy .last .0) (a .args .left) (positive t (k .before .before .before .before .before .before .before .before)) (omega (arith, c .before .before .before .before .before .before .before .before .before .before .before .copy .kept .0, c .before .before .before .before .before .before .before .before .before .before .before .before .before .before .before .before .loop .inv .0, levels-first t k))
+    c .before .before .before .before .before .before .evaluate2 .kept .1 .1 .1 .1 .1 .1 .0 ∙ below-long (c .before .before .before .before .before .before .before .before .before .before .before .put .last .0) (a .args .left) (positive t (k .before .before .before .before .before .before .before .before)) (omega (arith, c .before .before .before .before .before .before .before .before .before .before .before .put .kept .0, c .before .before .before .before .before .before .before .before .before .before .before .before .before .before .before .before .loop .inv .0, levels-first t k))
 
 evaluate-line-at-requires : (t : ℕ) → evaluate-lts.Need-line-at-requires (evaluate-claims t) (evaluate-at t) evaluate.Post evaluate-Inv-loop evaluate-μ-loop
 evaluate-line-at-requires t c κs = search needs
@@ -277,30 +287,26 @@ evaluate-loop-holds t c =
     let e = c .before .before .before .before .evaluate in
     (refl, refl, λ r. restart _ _ _ _ _ _ (a .args .work .now) (a .args .out .now) _ _ _ _ _ _ (first-is t c r) (a .pre .1 .1 .room))
 
-evaluate-slice-reshare-prefix-copy : (t : ℕ) → evaluate-lts.Need-slice-reshare-prefix-copy (evaluate-claims t) (evaluate-at t) evaluate.Post evaluate-Inv-loop evaluate-μ-loop
-evaluate-slice-reshare-prefix-copy t c = held-is t c .1
+evaluate-slice-reshare-prefix-put : (t : ℕ) → evaluate-lts.Need-slice-reshare-prefix-put (evaluate-claims t) (evaluate-at t) evaluate.Post evaluate-Inv-loop evaluate-μ-loop
+evaluate-slice-reshare-prefix-put t c = held-is t c .1
 
-evaluate-slice-aggregate-copy : (t : ℕ) → evaluate-lts.Need-slice-aggregate-copy (evaluate-claims t) (evaluate-at t) evaluate.Post evaluate-Inv-loop evaluate-μ-loop
-evaluate-slice-aggregate-copy t c = sym (length-take-le _ _ (held-is t (c .before) .1))
+evaluate-slice-aggregate-put : (t : ℕ) → evaluate-lts.Need-slice-aggregate-put (evaluate-claims t) (evaluate-at t) evaluate.Post evaluate-Inv-loop evaluate-μ-loop
+evaluate-slice-aggregate-put t c = sym (length-take-le _ _ (held-is t (c .before) .1))
 
-evaluate-copy-requires : (t : ℕ) → evaluate-lts.Need-copy-requires (evaluate-claims t) (evaluate-at t) evaluate.Post evaluate-Inv-loop evaluate-μ-loop
-evaluate-copy-requires t c κs =
-    let g = c .before in
-    let k = g .before .before .before .before in
-    let l = g .before .before .before .loop in
-    omega (arith, length-take-le (l .done .words) (l .out) (held-is t g .1), held-is t g .0, l .inv .0, levels-first t k, positive t (k .before .before .before .before .before .before .before .before))
+evaluate-put-requires : (t : ℕ) → evaluate-lts.Need-put-requires (evaluate-claims t) (evaluate-at t) evaluate.Post evaluate-Inv-loop evaluate-μ-loop
+evaluate-put-requires t c κs = search needs
 
 evaluate-sub-evaluate-2 : (t : ℕ) → evaluate-lts.Need-sub-evaluate-2 (evaluate-claims t) (evaluate-at t) evaluate.Post evaluate-Inv-loop evaluate-μ-loop
 evaluate-sub-evaluate-2 t c =
     let k = c .before .before .before .before .before .before .before .before in
     let l = c .before .before .before .before .before .before .before .loop in
-    omega (arith, c .before .before .copy .kept .0, l .inv .0, levels-first t k, positive t (k .before .before .before .before .before .before .before .before))
+    omega (arith, c .before .before .put .kept .0, l .inv .0, levels-first t k, positive t (k .before .before .before .before .before .before .before .before))
 
 evaluate-part-evaluate-start-2 : (t : ℕ) → evaluate-lts.Need-part-evaluate-start-2 (evaluate-claims t) (evaluate-at t) evaluate.Post evaluate-Inv-loop evaluate-μ-loop
 evaluate-part-evaluate-start-2 t c =
     let k = c .before .before .before .before .before .before .before .before in
     let l = c .before .before .before .before .before .before .before .loop in
-    omega (arith, c .before .before .copy .kept .0, l .inv .0, levels-first t k, positive t (k .before .before .before .before .before .before .before .before))
+    omega (arith, c .before .before .put .kept .0, l .inv .0, levels-first t k, positive t (k .before .before .before .before .before .before .before .before))
 
 evaluate-part-evaluate-end-2 : (t : ℕ) → evaluate-lts.Need-part-evaluate-end-2 (evaluate-claims t) (evaluate-at t) evaluate.Post evaluate-Inv-loop evaluate-μ-loop
 evaluate-part-evaluate-end-2 t c = search needs
@@ -312,7 +318,7 @@ evaluate-evaluate-requires-2 t c κs =
     let k = c .before .before .before .before .before .before .before .before .before .before in
     let l = c .before .before .before .before .before .before .before .before .before .loop in
     let r = a .pre .1 .0 in
-    (omega (arith, a .pre .0, positive t (k .before .before .before .before .before .before .before .before)), (ready-next _ _ _ _ _ _ _ _ _ (next-is t g r) (r .covered), below-roomy _ _ _ _ _ _ _ (a .pre .1 .1) (positive t (k .before .before .before .before .before .before .before .before)) _ (l .inv .2 r .inside) (c .before .before .before .before .copy .last .0) (l .out) (c .before .before .before .before .copy .kept .0 ∙ l .inv .0 ∙ work-long t k) (l .inv .1 ∙ out-wide t k)))
+    (omega (arith, a .pre .0, positive t (k .before .before .before .before .before .before .before .before)), (ready-next _ _ _ _ _ _ _ _ _ (next-is t g r) (r .covered), below-roomy _ _ _ _ _ _ _ (a .pre .1 .1) (positive t (k .before .before .before .before .before .before .before .before)) _ (l .inv .2 r .inside) (c .before .before .before .before .put .last .0) (l .out) (c .before .before .before .before .put .kept .0 ∙ l .inv .0 ∙ work-long t k) (l .inv .1 ∙ out-wide t k)))
 
 evaluate-join-held-requires : (t : ℕ) → evaluate-lts.Need-join-held-requires (evaluate-claims t) (evaluate-at t) evaluate.Post evaluate-Inv-loop evaluate-μ-loop
 evaluate-join-held-requires t c κs =
@@ -323,7 +329,7 @@ evaluate-join-held-requires t c κs =
     let r = a .pre .1 .0 in
     holdable (a .args .s .now) (a .args .at) (a .args .under) (a .args .log .now) (a .args .from) (a .args .left) (work-first t k) (out-first t k) (r .plan) (r .closes) (r .rest) (positive t (k .before .before .before .before .before .before .before .before)) (levels-first t k)
     (l .done) (l .work) (l .out) (l .inv .2 r) (a .pre .1 .1 .within) (l .inv .0) (l .inv .1) (room-first t k)
-    (next-is t (c .before .before .before .before .before .before .before .before .before .before .before .before .before) r) (c .before .before .before .before .before .before .before .before .before .before .before .copy .last .0) (c .before .before .before .before .before .before .before .before .before .before .before .copy .ensures) (c .before .before .before .before .before .before .before .before .before .before .before .copy .kept .0) (e .result) (e .last .1 .1 .1 .1 .1 .1 .0) (e .last .1 .1 .1 .1 .1 .1 .1 .0) (again-back t c) (e .kept .1 .1 .1 .1 .1 .1 .1 .0) (part-is t c r)
+    (next-is t (c .before .before .before .before .before .before .before .before .before .before .before .before .before) r) (c .before .before .before .before .before .before .before .before .before .before .before .put .last .0) (c .before .before .before .before .before .before .before .before .before .before .before .put .ensures ∙ placed-fits _ _ _ (held-fits t (c .before .before .before .before .before .before .before .before .before .before .before .before .before))) (c .before .before .before .before .before .before .before .before .before .before .before .put .kept .0) (e .result) (e .last .1 .1 .1 .1 .1 .1 .0) (e .last .1 .1 .1 .1 .1 .1 .1 .0) (again-back t c) (e .kept .1 .1 .1 .1 .1 .1 .1 .0) (part-is t c r)
 
 evaluate-past-requires-3 : (t : ℕ) → evaluate-lts.Need-past-requires-3 (evaluate-claims t) (evaluate-at t) evaluate.Post evaluate-Inv-loop evaluate-μ-loop
 evaluate-past-requires-3 t c κs = search needs
@@ -343,13 +349,13 @@ evaluate-loop-again t c =
     let l = j .before .before .before .before .before .before .before .before .before .before .before .before .before .before .before .before .loop in
     let e = j .before .before .before .before .before .before .evaluate2 in
     let h = c .before .before .before .before .before .join-held in
-    let w = j .before .before .before .before .before .before .before .before .before .before .before .copy in
+    let w = j .before .before .before .before .before .before .before .before .before .before .before .put in
     let fits : 1540 ≤ length (w .last .0) = omega (arith, w .kept .0, l .inv .0, levels-first t k, positive t (k .before .before .before .before .before .before .before .before)) in (
       h .kept .0 ∙ back-length 1540 (w .last .0) (e .last .1 .1 .1 .1 .1 .1 .0) fits (again-back t j) ∙ w .kept .0 ∙ l .inv .0,
       h .kept .1 .1 .0 ∙ e .kept .1 .1 .1 .1 .1 .1 .1 .0 ∙ l .inv .1,
       λ r. part-done (a .args .s .now) (a .args .at) (a .args .under) (a .args .log .now) (a .args .from) (a .args .left) (work-first t k) (out-first t k) (r .plan) (r .closes) (r .rest) (positive t (k .before .before .before .before .before .before .before .before)) (levels-first t k)
           (l .done) (l .work) (l .out) (l .inv .2 r) (a .pre .1 .1 .within) (l .inv .0) (l .inv .1) (room-first t k)
-          (next-is t (j .before .before .before .before .before .before .before .before .before .before .before .before .before) r) (w .last .0) (w .ensures) (w .kept .0) (e .result) (e .last .1 .1 .1 .1 .1 .1 .0) (e .last .1 .1 .1 .1 .1 .1 .1 .0) (again-back t j) (e .kept .1 .1 .1 .1 .1 .1 .1 .0) (part-is t j r)
+          (next-is t (j .before .before .before .before .before .before .before .before .before .before .before .before .before) r) (w .last .0) (w .ensures ∙ placed-fits _ _ _ (held-fits t (j .before .before .before .before .before .before .before .before .before .before .before .before .before))) (w .kept .0) (e .result) (e .last .1 .1 .1 .1 .1 .1 .0) (e .last .1 .1 .1 .1 .1 .1 .1 .0) (again-back t j) (e .kept .1 .1 .1 .1 .1 .1 .1 .0) (part-is t j r)
           (h .result) (h .last .0) (h .last .1 .1 .0) (h .ensures .0 .0) (h .ensures .0 .1) (h .ensures .1) (c .past3 .result) (c .past3 .ensures),
     )
 
@@ -421,9 +427,9 @@ pub +evaluate-spec : {M : Type 1} → statement M
     (evaluate-part-evaluate-end t)
     (evaluate-evaluate-requires t)
     (evaluate-loop-holds t)
-    (evaluate-slice-reshare-prefix-copy t)
-    (evaluate-slice-aggregate-copy t)
-    (evaluate-copy-requires t)
+    (evaluate-slice-reshare-prefix-put t)
+    (evaluate-slice-aggregate-put t)
+    (evaluate-put-requires t)
     (evaluate-sub-evaluate-2 t)
     (evaluate-part-evaluate-start-2 t)
     (evaluate-part-evaluate-end-2 t)

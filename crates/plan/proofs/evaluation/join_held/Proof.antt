@@ -6,6 +6,7 @@ use mathlib.Core.List.{List}
 use lib.ListN.{length, take, drop}
 use lib.Seq.{length-take-le}
 use borrow.Rule.Slice.PartMut.{midOf}
+use Rattle.reuse.proofs.Puts.{placed-fits}
 use Rattle.summary.specs.Calls.{joinCall, Wrote}
 use Rattle.plan.specs.Evaluation.{countOf}
 use Rattle.plan.proofs.Levels.{laid}
@@ -13,16 +14,14 @@ use borrow.Author.Needs.{needs}
 use Rattle.plan.proofs.evaluation.join_held.Statement.{statement}
 use Rattle.plan.proofs.evaluation.join_held.Tie as tie
 
-slice-reshare-prefix-copy : tie.Need-slice-reshare-prefix-copy
-slice-reshare-prefix-copy c = search needs
+slice-reshare-prefix-put : tie.Need-slice-reshare-prefix-put
+slice-reshare-prefix-put c = search needs
 
-slice-aggregate-copy : tie.Need-slice-aggregate-copy
-slice-aggregate-copy c = sym (length-take-le _ _ (c .before .before .before .before .pre .fits))
+slice-aggregate-put : tie.Need-slice-aggregate-put
+slice-aggregate-put c = sym (length-take-le _ _ (c .before .before .before .before .pre .fits))
 
-copy-requires : tie.Need-copy-requires
-copy-requires c κs =
-    let a = c .before .before .before .before in
-    omega (arith, length-take-le (a .args .words) (a .args .out .now) (a .pre .fits), a .pre .second, a .pre .level)
+put-requires : tie.Need-put-requires
+put-requires c κs = search needs
 
 add-end : tie.Need-add-end
 add-end c = search needs
@@ -30,7 +29,7 @@ add-end c = search needs
 slice-aggregate-join : tie.Need-slice-aggregate-join
 slice-aggregate-join c =
     let a = c .before .before .before .before .before .before .before .before .before in
-    sym (length-take-le _ _ (omega (arith, c .before .before .before .before .copy .kept .0, a .pre .first, a .pre .level)))
+    sym (length-take-le _ _ (omega (arith, c .before .before .before .before .put .kept .0, a .pre .first, a .pre .level)))
 
 sub-join : tie.Need-sub-join
 sub-join c = search needs
@@ -56,9 +55,10 @@ same-length-2 c = search needs
 returns : tie.Need-returns
 returns c =
     let a = c .before .before .before .before .before .before .before .before .before .before .before .before .before .before .before in
-    let k = c .before .before .before .before .before .before .before .before .before .before .copy in
+    let k = c .before .before .before .before .before .before .before .before .before .before .put in
     let j = c .before .before .before .join in
-    let l = laid (a .args .work .now) (a .args .out .now) (k .last .0) (a .args .held) (a .args .words) (a .pre) (k .ensures) in
+    let l = laid (a .args .work .now) (a .args .out .now) (k .last .0) (a .args .held) (a .args .words) (a .pre)
+    (k .ensures ∙ placed-fits _ _ _ (omega (arith, length-take-le (a .args .words) (a .args .out .now) (a .pre .fits), a .pre .second, a .pre .level))) in
     let w : joinCall (take (a .args .held) (k .last .0)) (midOf 770 (770 + a .args .words - 770) (k .last .0)) (a .args .out .now) ≡ joinCall (take (a .args .held) (a .args .work .now)) (take (a .args .words) (a .args .out .now)) (a .args .out .now) =
     ap (λ (v : List ℕ). joinCall v (midOf 770 (770 + a .args .words - 770) (k .last .0)) (a .args .out .now)) (l .0) ∙ ap (λ (v : List ℕ). joinCall (take (a .args .held) (a .args .work .now)) v (a .args .out .now)) (l .1) in
     ((c .count-of .ensures ∙ ap countOf (j .ensures .0 ∙ ap (λ (v : Wrote). v .answer) w), j .ensures .1 ∙ ap (λ (v : Wrote). v .buffer) w), l .2)
@@ -67,9 +67,9 @@ pub join-held-spec : {M : Type 1} → statement M
 join-held-spec =
     tie.close
     (tie.spec
-    slice-reshare-prefix-copy
-    slice-aggregate-copy
-    copy-requires
+    slice-reshare-prefix-put
+    slice-aggregate-put
+    put-requires
     add-end
     slice-aggregate-join
     sub-join
