@@ -1,16 +1,17 @@
--- Whatever way a text is cut into pieces, what comes out is the listing of all of them end to end.
+-- Whatever way a text is cut into pieces, what comes out is the listing of all of them end to end, and the verdict on it.
 use mathlib.Core.Path.{_≡_, refl, sym, ap, _∙_}
 use Prim.Native.Nat.{ℕ, suc}
 use mathlib.Core.List.{List, [], _∷_, _++_}
-use Rattle.texts.specs.Lines.{at, stopped, endBy, finishBy}
+use Rattle.texts.specs.Lines.{at, stopped, Read, refused, finishBy}
 use Rattle.texts.proofs.Feeding.{absorb}
-use Rattle.texts.specs.Logs.{logRoom}
+use Rattle.texts.specs.Logs.{logRoom, logOf}
+use Rattle.listing.specs.Tallies.{Tally}
 use Rattle.listing.specs.Listings.{listingOf}
-use Rattle.listing.specs.Feeding.{Taken, empty, inside, whole, takeLine, State, takePiece, printedAt}
+use Rattle.listing.specs.Feeding.{Taken, empty, inside, whole, takeLine, State, takePiece, takenWhole, printedBy, printedAt, verdictBy, verdictAt}
 use Rattle.listing.specs.Listers.{stateOf, unnumbered}
 use Rattle.listing.specs.Runs.{endToEnd, Fed}
 use Rattle.listing.specs.declared.Lister.{Lister}
-use Rattle.listing.proofs.Refining.{pieces-join, listing-whole}
+use Rattle.listing.proofs.Refining.{pieces-join, listing-whole, verdict-text}
 use Rattle.listing.proofs.Turns.{shift, take-none}
 
 -- what comes after does not depend on how many lines stand before
@@ -19,18 +20,25 @@ unfolding takePiece
 uncounted (at k held s) l = shift l 0 k held s
 uncounted (stopped k n) l = ap unnumbered (absorb takeLine logRoom 0 n l) ∙ sym (ap unnumbered (absorb takeLine logRoom k n l))
 
+-- nor does what the answer at the end gives, where that is the same for every line
+answer-uncounted : {A : Type 0} (give : Read Tally → A) → ((j k n : ℕ) → give (refused j n) ≡ give (refused k n))
+    → (s : State) → give (finishBy takenWhole (unnumbered s)) ≡ give (finishBy takenWhole s)
+unfolding finishBy
+answer-uncounted give same (at k [] empty) = same 1 (suc k) 1
+answer-uncounted give same (at k [] (inside t)) = same 1 (suc k) 1
+answer-uncounted give same (at k [] (whole t)) = refl
+answer-uncounted give same (at k (x ∷ held) s) = same 1 (suc k) 1
+answer-uncounted give same (stopped k n) = same 0 k n
+
 -- nor does the output
 printed-uncounted : (s : State) → printedAt (unnumbered s) ≡ printedAt s
-unfolding printedAt finishBy
-printed-uncounted (at k [] empty) = refl
-printed-uncounted (at k [] (inside t)) = refl
-printed-uncounted (at k [] (whole t)) = refl
-printed-uncounted (at k (x ∷ held) s) = refl
-printed-uncounted (stopped k n) = refl
+unfolding printedAt
+printed-uncounted s = answer-uncounted printedBy (λ j k n. refl) s
 
--- states alike give one output
-printed-same : (s t : State) → unnumbered s ≡ unnumbered t → printedAt s ≡ printedAt t
-printed-same s t e = sym (printed-uncounted s) ∙ ap printedAt e ∙ printed-uncounted t
+-- nor does the verdict
+verdict-uncounted : (s : State) → verdictAt (unnumbered s) ≡ verdictAt s
+unfolding verdictAt
+verdict-uncounted s = answer-uncounted verdictBy (λ j k n. refl) s
 
 -- pieces fed one by one are all of them fed at once
 fed-joins : (l r : Lister) (pieces : List (List ℕ)) → Fed l pieces r → unnumbered (stateOf r) ≡ unnumbered (takePiece (stateOf l) (endToEnd pieces))
@@ -42,8 +50,38 @@ fed-joins l r (bytes ∷ pieces) f =
     ∙ uncounted (takePiece (stateOf l) bytes) (endToEnd pieces)
     ∙ ap unnumbered (sym (pieces-join (stateOf l) bytes (endToEnd pieces)))
 
--- a new lister, fed a text in any pieces, gives the listing of the whole text
+-- a new lister, fed a text in any pieces, stands where the whole text ends
+fed-whole : (l r : Lister) (pieces : List (List ℕ)) → stateOf l ≡ at 0 [] empty → Fed l pieces r
+    → unnumbered (stateOf r) ≡ unnumbered (takePiece (at 0 [] empty) (endToEnd pieces))
+fed-whole l r pieces e f = fed-joins l r pieces f ∙ ap (λ (s : State). unnumbered (takePiece s (endToEnd pieces))) e
+
+-- it gives the listing of the whole text
 pub listing-pieces : (l r : Lister) (pieces : List (List ℕ)) → stateOf l ≡ at 0 [] empty → Fed l pieces r → printedAt (stateOf r) ≡ listingOf (endToEnd pieces)
 listing-pieces l r pieces e f =
-    printed-same (stateOf r) (takePiece (at 0 [] empty) (endToEnd pieces)) (fed-joins l r pieces f ∙ ap (λ (s : State). unnumbered (takePiece s (endToEnd pieces))) e)
+    sym (printed-uncounted (stateOf r))
+    ∙ ap printedAt (fed-whole l r pieces e f)
+    ∙ printed-uncounted (takePiece (at 0 [] empty) (endToEnd pieces))
     ∙ listing-whole (endToEnd pieces)
+
+-- and the verdict on it
+pub verdict-pieces : (l r : Lister) (pieces : List (List ℕ)) → stateOf l ≡ at 0 [] empty → Fed l pieces r
+    → verdictAt (stateOf r) ≡ verdictBy (logOf (endToEnd pieces))
+verdict-pieces l r pieces e f =
+    sym (verdict-uncounted (stateOf r))
+    ∙ ap verdictAt (fed-whole l r pieces e f)
+    ∙ verdict-uncounted (takePiece (at 0 [] empty) (endToEnd pieces))
+    ∙ verdict-text (endToEnd pieces)
+
+-- a new lister, fed a text in one piece
+module _ (l m : Lister) (text : List ℕ) (new : stateOf l ≡ at 0 [] empty) (fed : stateOf m ≡ unnumbered (takePiece (stateOf l) text)) where
+  -- stands where the text ends
+  fed-text : stateOf m ≡ unnumbered (takePiece (at 0 [] empty) text)
+  fed-text = fed ∙ ap (λ (s : State). unnumbered (takePiece s text)) new
+
+  -- gives the listing of the text
+  pub printed-whole : printedAt (stateOf m) ≡ listingOf text
+  printed-whole = ap printedAt fed-text ∙ printed-uncounted (takePiece (at 0 [] empty) text) ∙ listing-whole text
+
+  -- and the verdict on it
+  pub verdict-whole : verdictAt (stateOf m) ≡ verdictBy (logOf text)
+  verdict-whole = ap verdictAt fed-text ∙ verdict-uncounted (takePiece (at 0 [] empty) text) ∙ verdict-text text

@@ -1,4 +1,4 @@
--- What a lister prints at the end of the text: one law for each way that the code returns.
+-- What the end of the text gives: one law for each way that the code returns.
 use mathlib.Core.Path.{_≡_, refl, sym, ap, _∙_}
 use Prim.Native.Nat.{ℕ, zero, suc, _+_, _≤_, _<_}
 use native.Mathlib.Omega.{arith}
@@ -8,40 +8,67 @@ use mathlib.Core.Option.{none}
 use lib.ListN.{length, take, drop}
 use lib.Seq.{length-take-le}
 use Rattle.reuse.specs.Lists.{sum}
-use Rattle.texts.specs.Lines.{at, stopped, finishBy}
-use Rattle.listing.specs.Feeding.{Taken, empty, inside, whole, takenWhole, printedAt}
+use Rattle.reuse.proofs.Lists.{by-test}
+use Rattle.texts.specs.Lines.{Answer, to, no, at, stopped, Read, got, refused, finishBy}
+use Rattle.texts.proofs.Tests.{never}
+use Rattle.listing.specs.Feeding.{Taken, empty, inside, whole, State, takenWhole, printedBy, printedAt, verdictBy, verdictAt}
 use Rattle.listing.specs.Listings.{listed, refusedText}
-use Rattle.listing.specs.Listers.{Tallied, tallyIn, soundLister, stateOf, stateIn}
+use Rattle.listing.specs.Listers.{Tallied, tallyIn, takenBy, stateBy, soundLister, stateOf, stateIn}
 use Rattle.listing.specs.Pages.{missesBy, Counted}
 use Rattle.listing.specs.Tallies.{Tally, missesIn}
 use Rattle.listing.specs.declared.Lister.{Lister}
 use Rattle.listing.specs.declared.Phase.{Phase}
 use Rattle.listing.specs.declared.Phase.the-variants.{Empty, Inside, Whole, Stopped}
+use Rattle.listing.specs.declared.Verdict.the-variants.{Listed, Refused}
 use Rattle.listing.proofs.Refining.{listed-same}
 use Rattle.listing.proofs.Soundness.{state-sound, state-unsound}
 
 -- the end comes too early where nothing whole is read
-print-early : (s : Taken) → takenWhole s ≡ none → (held : List ℕ) → printedAt (at 0 held s) ≡ refusedText 1
-unfolding printedAt finishBy
-print-early s e [] = rw e
-print-early s e (x ∷ held) = refl
+verdict-early : (s : Taken) → takenWhole s ≡ none → (held : List ℕ) → verdictAt (at 0 held s) ≡ Refused 1
+unfolding verdictAt finishBy
+verdict-early s e [] = rw e
+verdict-early s e (x ∷ held) = refl
 
 -- so it does inside a line
-print-held : (s : Taken) (k : ℕ) (line : List ℕ) → 0 < k → k ≤ length line → printedAt (at 0 (take k line) s) ≡ refusedText 1
-unfolding printedAt finishBy
-print-held s zero line h g = absurd (omega arith)
-print-held s (suc k) [] h g = absurd (omega arith)
-print-held s (suc k) (x ∷ line) h g = refl
+verdict-inside : (s : Taken) (k : ℕ) (line : List ℕ) → 0 < k → k ≤ length line → verdictAt (at 0 (take k line) s) ≡ Refused 1
+unfolding verdictAt finishBy
+verdict-inside s zero line h g = absurd (omega arith)
+verdict-inside s (suc k) [] h g = absurd (omega arith)
+verdict-inside s (suc k) (x ∷ line) h g = refl
+
+-- a whole trace is listed
+verdict-tally : (t : Tally) → verdictAt (at 0 [] (whole t)) ≡ Listed
+unfolding verdictAt finishBy
+verdict-tally t = refl
+
+-- a refused text is refused with its number
+verdict-stop : (n : ℕ) → verdictAt (stopped 0 n) ≡ Refused n
+unfolding verdictAt finishBy
+verdict-stop n = refl
+
+-- an answer that is refused prints its refusal
+refused-prints : (r : Read Tally) (n : ℕ) → verdictBy r ≡ Refused n → printedBy r ≡ refusedText n
+refused-prints (got t) n e = never (cc)
+refused-prints (refused k m) n e = let q : m ≡ n = cc in rw q
+
+-- a text that is refused at its end prints its refusal
+pub prints-refused : (s : State) (n : ℕ) → verdictAt s ≡ Refused n → printedAt s ≡ refusedText n
+unfolding printedAt verdictAt
+prints-refused s n e = refused-prints (finishBy takenWhole s) n e
+
+-- one that is listed has ended its last line, and its trace is whole
+whole-at : (a : Answer Taken) (held : List ℕ) → verdictAt (stateBy a held) ≡ Listed → (t : Tally) × (a ≡ to (whole t)) × (held ≡ [])
+unfolding verdictAt finishBy
+whole-at (to empty) [] e = never (cc)
+whole-at (to (inside t)) [] e = never (cc)
+whole-at (to (whole t)) [] e = (t, refl, refl)
+whole-at (to s) (x ∷ held) e = never (cc)
+whole-at (no n) held e = never (cc)
 
 -- a whole trace prints its listing
 print-tally : (t : Tally) → printedAt (at 0 [] (whole t)) ≡ listed (t .reads) (length (t .recent)) (missesIn t)
 unfolding printedAt finishBy
 print-tally t = refl
-
--- a refused text prints its refusal
-print-stopped : (n : ℕ) → printedAt (stopped 0 n) ≡ refusedText n
-unfolding printedAt finishBy
-print-stopped n = refl
 
 -- the counts of a tally count its reads
 pub counted : (reads extents : ℕ) (stack counts : List ℕ) → Tallied reads extents stack counts → Counted reads (take extents counts)
@@ -63,10 +90,21 @@ listed-tally reads extents stack counts g =
     ∙ ap (λ (n : ℕ). listed reads n (missesIn (tallyIn reads extents stack counts))) e
     ∙ sym (print-tally (tallyIn reads extents stack counts))
 
+-- a phase whose text is taken whole
+whole-phase : (p : Phase) (s t : Tally) → takenBy p s ≡ to (whole t) → p ≡ Whole
+whole-phase Empty s t e = never (cc)
+whole-phase Inside s t e = never (cc)
+whole-phase Whole s t e = refl
+whole-phase (Stopped n) s t e = never (cc)
+
 module _ (l : Lister) where
   -- a lister that is not sound
-  pub prints-unsound : soundLister l ≡ false → refusedText 7 ≡ printedAt (stateOf l)
-  prints-unsound h = sym (ap printedAt (state-unsound l h) ∙ print-stopped 7)
+  pub verdict-unsound : soundLister l ≡ false → Refused 7 ≡ verdictAt (stateOf l)
+  verdict-unsound h = sym (ap verdictAt (state-unsound l h) ∙ verdict-stop 7)
+
+  -- one that is listed is sound
+  pub listed-sound : verdictAt (stateOf l) ≡ Listed → soundLister l ≡ true
+  listed-sound e = by-test (soundLister l) (λ s. s) (λ s. let q : Refused 7 ≡ Listed = verdict-unsound s ∙ e in never (cc))
 
   module _ (h : soundLister l ≡ true) where
     -- a sound one, by its phase
@@ -74,24 +112,33 @@ module _ (l : Lister) where
     by-phase p e = state-sound l h ∙ ap (λ (q : Phase). stateIn q (l .reads) (l .extents) (l .stack) (l .counts) (take (l .held) (l .line))) e
 
     -- before the first line
-    pub prints-empty : l .phase ≡ Empty → refusedText 1 ≡ printedAt (stateOf l)
-    prints-empty e = sym (ap printedAt (by-phase Empty e) ∙ print-early empty refl (take (l .held) (l .line)))
+    pub verdict-empty : l .phase ≡ Empty → Refused 1 ≡ verdictAt (stateOf l)
+    verdict-empty e = sym (ap verdictAt (by-phase Empty e) ∙ verdict-early empty refl (take (l .held) (l .line)))
 
     -- inside the trace
-    pub prints-inside : l .phase ≡ Inside → refusedText 1 ≡ printedAt (stateOf l)
-    prints-inside e = sym (ap printedAt (by-phase Inside e) ∙ print-early (inside (tallyIn (l .reads) (l .extents) (l .stack) (l .counts))) refl (take (l .held) (l .line)))
+    pub verdict-reads : l .phase ≡ Inside → Refused 1 ≡ verdictAt (stateOf l)
+    verdict-reads e = sym (ap verdictAt (by-phase Inside e) ∙ verdict-early (inside (tallyIn (l .reads) (l .extents) (l .stack) (l .counts))) refl (take (l .held) (l .line)))
 
     -- a refused text
-    pub prints-stopped : (n : ℕ) → l .phase ≡ Stopped n → refusedText n ≡ printedAt (stateOf l)
-    prints-stopped n e = sym (ap printedAt (by-phase (Stopped n) e) ∙ print-stopped n)
+    pub verdict-stopped : (n : ℕ) → l .phase ≡ Stopped n → Refused n ≡ verdictAt (stateOf l)
+    verdict-stopped n e = sym (ap verdictAt (by-phase (Stopped n) e) ∙ verdict-stop n)
 
     -- after the trace, inside a line
-    pub prints-held : l .phase ≡ Whole → 0 < l .held → l .held ≤ length (l .line) → refusedText 1 ≡ printedAt (stateOf l)
-    prints-held e a b = sym (ap printedAt (by-phase Whole e) ∙ print-held (whole (tallyIn (l .reads) (l .extents) (l .stack) (l .counts))) (l .held) (l .line) a b)
+    pub verdict-held : l .phase ≡ Whole → 0 < l .held → l .held ≤ length (l .line) → Refused 1 ≡ verdictAt (stateOf l)
+    verdict-held e a b = sym (ap verdictAt (by-phase Whole e) ∙ verdict-inside (whole (tallyIn (l .reads) (l .extents) (l .stack) (l .counts))) (l .held) (l .line) a b)
 
     -- after the trace, at the end of its last line
-    pub prints-whole : l .phase ≡ Whole → l .held ≡ 0 → Tallied (l .reads) (l .extents) (l .stack) (l .counts)
+    pub verdict-listed : l .phase ≡ Whole → l .held ≡ 0 → Listed ≡ verdictAt (stateOf l)
+    verdict-listed e a =
+        sym (ap verdictAt (by-phase Whole e)
+        ∙ ap (λ (k : ℕ). verdictAt (at 0 (take k (l .line)) (whole (tallyIn (l .reads) (l .extents) (l .stack) (l .counts))))) a
+        ∙ verdict-tally (tallyIn (l .reads) (l .extents) (l .stack) (l .counts)))
+
+    -- a listed one prints the listing of its tally
+    pub prints-listed : verdictAt (stateOf l) ≡ Listed → Tallied (l .reads) (l .extents) (l .stack) (l .counts)
         → listed (l .reads) (length (take (l .extents) (l .counts))) (missesBy (take (l .extents) (l .counts))) ≡ printedAt (stateOf l)
-    prints-whole e a g =
+    prints-listed e g =
+        let t = tallyIn (l .reads) (l .extents) (l .stack) (l .counts) in
+        let w = whole-at (takenBy (l .phase) t) (take (l .held) (l .line)) (sym (ap verdictAt (state-sound l h)) ∙ e) in
         listed-tally (l .reads) (l .extents) (l .stack) (l .counts) g
-        ∙ sym (ap printedAt (by-phase Whole e) ∙ ap (λ (k : ℕ). printedAt (at 0 (take k (l .line)) (whole (tallyIn (l .reads) (l .extents) (l .stack) (l .counts))))) a)
+        ∙ sym (ap printedAt (by-phase Whole (whole-phase (l .phase) t (w .0) (w .1))) ∙ ap (λ (held : List ℕ). printedAt (at 0 held (whole t))) (w .2))

@@ -16,7 +16,7 @@ use Rattle.texts.specs.Logs.{traceWord, Row, row, badRow, rowOf, Logged, empty,
 use Rattle.texts.proofs.Feeding.{feed-append}
 use Rattle.listing.specs.Tallies.{tallied, missesIn, tallyOf}
 use Rattle.listing.specs.Listings.{atRows, listed, sizesOf, outputOf, listingOf}
-use Rattle.listing.specs.Feeding.{Taken, taken, takeRow, takeHead, takeLine, State, takePiece, printedBy, printedAt}
+use Rattle.listing.specs.Feeding.{Taken, taken, takeRow, takeHead, takeLine, State, takePiece, printedBy, printedAt, verdictBy, verdictAt}
 use Rattle.listing.proofs.Tallies.{tally-none, tally-more, over-same, misses-same}
 
 -- an answer's state, by a map
@@ -139,3 +139,17 @@ print-refines (stopped k n) = refl
 pub listing-whole : (text : List ℕ) → printedAt (takePiece (at 0 [] Taken.empty) text) ≡ listingOf text
 unfolding listingOf logOf
 listing-whole text = rw (piece-refines start text) (print-refines (feed start text))
+
+-- the end gives the same verdict for both
+pub verdict-refines : (f : Fed Logged) → verdictAt (fedMap f) ≡ verdictBy (finish f)
+unfolding verdictAt finish finishBy
+verdict-refines (at k [] empty) = refl
+verdict-refines (at k [] (inside t)) = refl
+verdict-refines (at k [] (whole t)) = refl
+verdict-refines (at k (x ∷ held) s) = refl
+verdict-refines (stopped k n) = refl
+
+-- a whole text, taken by tallies, is listed or refused as it is read
+pub verdict-text : (text : List ℕ) → verdictAt (takePiece (at 0 [] Taken.empty) text) ≡ verdictBy (logOf text)
+unfolding logOf
+verdict-text text = rw (piece-refines start text) (verdict-refines (feed start text))

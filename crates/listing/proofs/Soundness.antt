@@ -8,9 +8,10 @@ use lib.ListN.{length, take}
 use borrow.Author.Tests.{leb-true, eqb-true, le-leb, lt-leb}
 use Rattle.reuse.specs.Limits.{maxReads, maxExtents}
 use Rattle.reuse.specs.Lists.{distinct, sum}
-use Rattle.reuse.proofs.Lists.{both}
+use Rattle.reuse.proofs.Lists.{both, by-test}
 use Rattle.texts.specs.Lines.{at, stopped}
 use Rattle.texts.specs.Logs.{longestLine}
+use Rattle.texts.proofs.Tests.{never}
 use Rattle.listing.specs.Feeding.{empty}
 use Rattle.listing.specs.Listers.{Tallied, soundLister, stateOf, stateIn}
 use Rattle.listing.specs.declared.Lister.{Lister}
@@ -48,6 +49,12 @@ module _ (l : Lister) where
       → (total : ℕ) → total ≡ sum (take (l .extents) (l .counts)) → eqb (l .extents + total) (l .reads) ≡ soundLister l
   unfolding soundLister
   sound-all a b d h total e = rw (le-leb (l .held) longestLine a, le-leb (l .extents) maxExtents b, le-leb (l .reads) maxReads d, h, e)
+
+  -- what is held of a line fits
+  pub sound-fits : soundLister l ≡ true → l .held ≤ longestLine
+  unfolding soundLister
+  sound-fits h =
+      by-test (leb (l .held) longestLine) (λ e. leb-true (l .held) longestLine e) (λ e. let z : false ≡ true = (simp e at h) in never (cc))
 
   -- what is held of a line fits, and the rows hold a tally
   pub sound-facts : soundLister l ≡ true → length (l .stack) ≡ maxExtents → length (l .counts) ≡ maxExtents

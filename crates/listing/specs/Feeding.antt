@@ -10,6 +10,8 @@ use Rattle.texts.specs.Lines.{Answer, to, no, Fed, at, stopped, Read, got, refu
 use Rattle.texts.specs.Logs.{traceWord, Row, row, badRow, rowOf, logRoom}
 use Rattle.listing.specs.Tallies.{Tally, noReads, tallied, overTally, missesIn}
 use Rattle.listing.specs.Listings.{listed, refusedText}
+use Rattle.listing.specs.declared.Verdict.{Verdict}
+use Rattle.listing.specs.declared.Verdict.the-variants.{Listed, Refused}
 
 -- nothing read yet; the reads so far; the whole trace
 pub data Taken : Type 0 where
@@ -61,3 +63,12 @@ printedBy (refused line n) = refusedText n
 -- the whole output at the end of the text
 unfoldable pub printedAt : State → List ℕ
 printedAt s = printedBy (finishBy takenWhole s)
+
+-- by an answer: listed, or refused with its number
+abbrev pub verdictBy : {T : Type 0} → Read T → Verdict
+verdictBy (got t) = Listed
+verdictBy (refused line n) = Refused n
+
+-- whether the end of the text gives a listing or a refusal
+unfoldable pub verdictAt : State → Verdict
+verdictAt s = verdictBy (finishBy takenWhole s)

@@ -12,7 +12,7 @@ ghost use Prim.Native.Nat.{_≤_};
 ghost use mathlib.Core.Bool.{not, _&&_};
 ghost use lib.ListN.{take};
 ghost use Rattle.texts.specs.Lines.{at};
-ghost use Rattle.listing.specs.Feeding.{empty, takePiece, printedAt};
+ghost use Rattle.listing.specs.Feeding.{empty, takePiece, printedAt, verdictAt};
 ghost use Rattle.listing.specs.Listers.{isStopped, soundLister, stateOf, unnumbered};
 ghost use Rattle.listing.specs.Pages.{pageBytes};
 
@@ -31,6 +31,12 @@ pub enum Phase {
     Inside,
     Whole,
     Stopped(u32),
+}
+
+// What the end of the text would give: a listing, or the refusal's number.
+pub enum Verdict {
+    Listed,
+    Refused(u32),
 }
 
 // A log text taken so far: what is held of a line that has not ended, how far the text is, and the tally of its reads.
@@ -137,22 +143,35 @@ impl Lister {
         }
     }
 
+    // Whether the text taken is listed or refused, if it ends here.
+    pub fn verdict(self) -> Verdict
+        ensures { λ r. ⌜ r ≡ verdictAt (stateOf self) ⌝ }
+    {
+        if !self.sound() {
+            return Verdict::Refused(7);
+        }
+        let phase = self.phase;
+        match phase {
+            Phase::Empty => Verdict::Refused(1),
+            Phase::Inside => Verdict::Refused(1),
+            Phase::Stopped(n) => Verdict::Refused(n),
+            Phase::Whole => {
+                if 0 < self.held {
+                    return Verdict::Refused(1);
+                }
+                Verdict::Listed
+            }
+        }
+    }
+
     // The whole output at the end of the text.
     pub fn finish(self) -> Page
         ensures { λ r. ⌜ (take (r .len) (r .bytes) ≡ printedAt (stateOf self)) × (r .len ≤ pageBytes) ⌝ }
     {
-        if !self.sound() {
-            return printing::refused_page(7);
-        }
-        let phase = self.phase;
-        match phase {
-            Phase::Empty => printing::refused_page(1),
-            Phase::Inside => printing::refused_page(1),
-            Phase::Stopped(n) => printing::refused_page(n),
-            Phase::Whole => {
-                if 0 < self.held {
-                    return printing::refused_page(1);
-                }
+        let verdict = self.verdict();
+        match verdict {
+            Verdict::Refused(n) => printing::refused_page(n),
+            Verdict::Listed => {
                 let v = self.extents;
                 let counts = self.counts;
                 printing::listing_page(self.reads, &counts[..v])
