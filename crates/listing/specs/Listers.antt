@@ -2,7 +2,7 @@
 use mathlib.Core.Path.{_≡_}
 use Prim.Native.Nat.{ℕ, zero, suc, _+_, _-_, _≤_, _<_}
 use mathlib.Core.List.{List, [], _∷_}
-use mathlib.Core.Bool.{Bool, true, false, cond, _&&_}
+use mathlib.Core.Bool.{Bool, true, false, cond, not, _&&_}
 use mathlib.Core.Option.{Option, none, some}
 use lib.Dec.{eqb, leb}
 use lib.ListN.{length, take, drop}
@@ -109,6 +109,10 @@ isStopped Empty = false
 isStopped Inside = false
 isStopped Whole = false
 isStopped (Stopped n) = true
+
+-- a lister that takes more of its text: sound, and not refused
+abbrev pub takesMore : Lister → Bool
+takesMore l = not (isStopped (l .phase)) && soundLister l
 
 -- the state of a phase, a tally in its rows and the bytes held
 abbrev pub stateIn : Phase → ℕ → ℕ → List ℕ → List ℕ → List ℕ → State
