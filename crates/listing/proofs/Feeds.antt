@@ -1,14 +1,13 @@
 -- A piece fed to a lister: before the first line, after each turn, and at the end of the piece.
 use mathlib.Core.Path.{_≡_, refl, sym, ap, _∙_}
-use Prim.Native.Nat.{ℕ, _+_, _-_, _≤_, _<_}
+use Prim.Native.Nat.{ℕ, _+_, _≤_, _<_}
 use native.Mathlib.Omega.{arith}
-use mathlib.Core.List.{List, []}
-use mathlib.Core.Bool.{Bool, true, false, cond, not, _&&_}
-use lib.Dec.{leb, eqb}
+use mathlib.Core.List.{List}
+use mathlib.Core.Bool.{true, false}
 use lib.ListN.{length, take, drop}
 use borrow.Author.Tests.{le-leb, eq-eqb}
 use Rattle.reuse.specs.Limits.{maxReads, maxExtents}
-use Rattle.reuse.specs.Lists.{distinct, sum}
+use Rattle.reuse.specs.Lists.{sum}
 use Rattle.reuse.proofs.Lists.{by-test}
 use Rattle.texts.specs.Lines.{Answer, to, no, at, stopped}
 use Rattle.texts.specs.Logs.{longestLine}

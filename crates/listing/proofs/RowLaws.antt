@@ -9,7 +9,8 @@ use Rattle.reuse.proofs.Sums.{sum-drop}
 use Rattle.texts.specs.Bytes.{bytes}
 use Rattle.texts.specs.Digits.{decimal}
 use Rattle.listing.specs.Listings.{atRow, atRows, listed, refusedText}
-use Rattle.listing.specs.Pages.{Put, Counted, closing, lineEnd, missesBy, endRoom, numberRoom, rowRoom, pageBytes}
+use Rattle.listing.specs.Tallies.{missesBy}
+use Rattle.listing.specs.Pages.{Put, Counted, closing, lineEnd, endRoom, numberRoom, rowRoom, pageBytes}
 use Rattle.listing.proofs.PageLaws.{put-then, put-same}
 
 -- a number put within its room

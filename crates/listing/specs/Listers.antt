@@ -8,10 +8,9 @@ use lib.Dec.{eqb, leb}
 use lib.ListN.{length, take, drop}
 use Rattle.reuse.specs.Limits.{maxReads, maxExtents}
 use Rattle.reuse.specs.Lists.{distinct, sum}
-use Rattle.texts.specs.Lines.{Answer, to, no, Fed, at, stopped}
+use Rattle.texts.specs.Lines.{Answer, to, no, at, stopped}
 use Rattle.texts.specs.Words.{after}
-use Rattle.texts.specs.Logs.{traceWord, row, badRow, longestLine}
-use Rattle.texts.specs.Logs.{Row as LogRow}
+use Rattle.texts.specs.Logs.{traceWord, Row as LogRow, row, badRow, longestLine}
 use Rattle.listing.specs.Tallies.{Tally}
 use Rattle.listing.specs.Feeding.{Taken, empty, inside, whole, takeHead, takeLine, State, takePiece}
 use Rattle.listing.specs.declared.lines.Row.{Row}
