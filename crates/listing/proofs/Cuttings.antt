@@ -1,13 +1,13 @@
 -- Whatever way a text is cut into pieces, what comes out is the listing of all of them end to end, and the verdict on it.
 use mathlib.Core.Path.{_≡_, refl, sym, ap, _∙_}
 use Prim.Native.Nat.{ℕ, suc}
-use mathlib.Core.List.{List, [], _∷_, _++_}
+use mathlib.Core.List.{List, [], _∷_}
 use Rattle.texts.specs.Lines.{at, stopped, Read, refused, finishBy}
 use Rattle.texts.proofs.Feeding.{absorb}
 use Rattle.texts.specs.Logs.{logRoom, logOf}
 use Rattle.listing.specs.Tallies.{Tally}
 use Rattle.listing.specs.Listings.{listingOf}
-use Rattle.listing.specs.Feeding.{Taken, empty, inside, whole, takeLine, State, takePiece, takenWhole, printedBy, printedAt, verdictBy, verdictAt}
+use Rattle.listing.specs.Feeding.{empty, inside, whole, takeLine, State, takePiece, takenWhole, printedBy, printedAt, verdictBy, verdictAt}
 use Rattle.listing.specs.Listers.{stateOf, unnumbered}
 use Rattle.listing.specs.Runs.{endToEnd, Fed}
 use Rattle.listing.specs.declared.Lister.{Lister}

@@ -1,14 +1,14 @@
 -- The digits of a number, made from the last to the first.
-use mathlib.Core.Path.{_≡_, refl, sym, _∙_}
-use Prim.Native.Nat.{ℕ, zero, suc, _+_, _-_, _/_, _%_, _≤_, _<_}
+use mathlib.Core.Path.{_≡_, sym, _∙_}
+use Prim.Native.Nat.{ℕ, suc, _+_, _-_, _/_, _%_, _≤_, _<_}
 use native.Mathlib.Omega.{arith}
 use mathlib.Core.List.{List, [], _∷_, _++_, append-assoc, append-nil}
 use lib.Dec.{ltb}
 use lib.ListN.{length, take, drop, set, drop-of-length-le, length-append, length-take, length-drop, length-set}
 use lib.Seq.{take-all, drop-cons, drop-set-lt, getD-set-same}
-use borrow.Author.Tests.{ltb-true, ltb-false, lt-ltb, le-ltb}
+use borrow.Author.Tests.{ltb-true, ltb-false}
 use Rattle.reuse.proofs.Lists.{by-test}
-use Rattle.texts.specs.Digits.{decimalBy, decimal, tooLong}
+use Rattle.texts.specs.Digits.{decimal, tooLong}
 use Rattle.texts.proofs.Numbers.{decimal-short, decimal-long, decimal-length}
 use Rattle.listing.specs.Pages.{Put, numberRoom}
 

@@ -1,21 +1,20 @@
 -- A piece fed to a lister: before the first line, after each turn, and at the end of the piece.
 use mathlib.Core.Path.{_≡_, refl, sym, ap, _∙_}
-use Prim.Native.Nat.{ℕ, _+_, _-_, _≤_, _<_}
+use Prim.Native.Nat.{ℕ, _+_, _≤_, _<_}
 use native.Mathlib.Omega.{arith}
-use mathlib.Core.List.{List, []}
-use mathlib.Core.Bool.{Bool, true, false, cond, not, _&&_}
-use lib.Dec.{leb, eqb}
+use mathlib.Core.List.{List}
+use mathlib.Core.Bool.{true, false}
 use lib.ListN.{length, take, drop}
 use borrow.Author.Tests.{le-leb, eq-eqb}
 use Rattle.reuse.specs.Limits.{maxReads, maxExtents}
-use Rattle.reuse.specs.Lists.{distinct, sum}
+use Rattle.reuse.specs.Lists.{sum}
 use Rattle.reuse.proofs.Lists.{by-test}
 use Rattle.texts.specs.Lines.{Answer, to, no, at, stopped}
 use Rattle.texts.specs.Logs.{longestLine}
 use Rattle.texts.proofs.Tests.{never}
 use Rattle.texts.proofs.Positions.{gone}
 use Rattle.listing.specs.Feeding.{Taken, State, takePiece}
-use Rattle.listing.specs.Listers.{Tallied, tallyIn, takenBy, stateBy, stateIn, unnumbered, isStopped, soundLister, stateOf, Turnable, Turned}
+use Rattle.listing.specs.Listers.{Tallied, tallyIn, takenBy, stateBy, stateIn, unnumbered, isStopped, soundLister, stateOf, takesMore, Turnable, Turned}
 use Rattle.listing.specs.declared.Phase.{Phase}
 use Rattle.listing.specs.declared.Phase.the-variants.{Empty, Inside, Whole, Stopped}
 use Rattle.listing.specs.declared.Lister.{Lister}
@@ -53,14 +52,14 @@ pub stopped-stays : (l : Lister) (bytes : List ℕ) → isStopped (l .phase) ≡
 stopped-stays l bytes h = let s = stop-is l h in refused-stays l (s .0) bytes (s .1)
 
 -- a lister that is refused or not sound stays as it is
-pub idle-stays : (l : Lister) (bytes : List ℕ) → (not (isStopped (l .phase)) && soundLister l) ≡ false → stateOf l ≡ unnumbered (takePiece (stateOf l) bytes)
+pub idle-stays : (l : Lister) (bytes : List ℕ) → takesMore l ≡ false → stateOf l ≡ unnumbered (takePiece (stateOf l) bytes)
 unfolding stateOf
 idle-stays l bytes e =
     by-test (isStopped (l .phase)) (λ s. stopped-stays l bytes s)
     (λ s. refused-stays l 7 bytes (let u : soundLister l ≡ false = (simp s at e) in rw u))
 
 -- another goes on and is sound
-pub goes-on : (l : Lister) → (not (isStopped (l .phase)) && soundLister l) ≡ true → (isStopped (l .phase) ≡ false) × (soundLister l ≡ true)
+pub goes-on : (l : Lister) → takesMore l ≡ true → (isStopped (l .phase) ≡ false) × (soundLister l ≡ true)
 goes-on l e = by-test (isStopped (l .phase)) (λ s. let z : false ≡ true = (simp s at e) in never (cc)) (λ s. (s, (simp s at e)))
 
 -- a piece taken as far as a place: what is left of it does from here what the whole does from the start

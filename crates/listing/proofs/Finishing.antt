@@ -1,26 +1,24 @@
 -- What the end of the text gives: one law for each way that the code returns.
 use mathlib.Core.Path.{_≡_, refl, sym, ap, _∙_}
-use Prim.Native.Nat.{ℕ, zero, suc, _+_, _≤_, _<_}
+use Prim.Native.Nat.{ℕ, zero, suc, _≤_, _<_}
 use native.Mathlib.Omega.{arith}
 use mathlib.Core.List.{List, [], _∷_}
 use mathlib.Core.Bool.{true, false}
 use mathlib.Core.Option.{none}
-use lib.ListN.{length, take, drop}
+use lib.ListN.{length, take}
 use lib.Seq.{length-take-le}
-use Rattle.reuse.specs.Lists.{sum}
 use Rattle.reuse.proofs.Lists.{by-test}
 use Rattle.texts.specs.Lines.{Answer, to, no, at, stopped, Read, got, refused, finishBy}
 use Rattle.texts.proofs.Tests.{never}
 use Rattle.listing.specs.Feeding.{Taken, empty, inside, whole, State, takenWhole, printedBy, printedAt, verdictBy, verdictAt}
 use Rattle.listing.specs.Listings.{listed, refusedText}
 use Rattle.listing.specs.Listers.{Tallied, tallyIn, takenBy, stateBy, soundLister, stateOf, stateIn}
-use Rattle.listing.specs.Pages.{missesBy, Counted}
-use Rattle.listing.specs.Tallies.{Tally, missesIn}
+use Rattle.listing.specs.Pages.{Counted}
+use Rattle.listing.specs.Tallies.{Tally, missesBy}
 use Rattle.listing.specs.declared.Lister.{Lister}
 use Rattle.listing.specs.declared.Phase.{Phase}
 use Rattle.listing.specs.declared.Phase.the-variants.{Empty, Inside, Whole, Stopped}
 use Rattle.listing.specs.declared.Verdict.the-variants.{Listed, Refused}
-use Rattle.listing.proofs.Refining.{listed-same}
 use Rattle.listing.proofs.Soundness.{state-sound, state-unsound}
 
 -- the end comes too early where nothing whole is read
@@ -66,7 +64,7 @@ whole-at (to s) (x ∷ held) e = never (cc)
 whole-at (no n) held e = never (cc)
 
 -- a whole trace prints its listing
-print-tally : (t : Tally) → printedAt (at 0 [] (whole t)) ≡ listed (t .reads) (length (t .recent)) (missesIn t)
+print-tally : (t : Tally) → printedAt (at 0 [] (whole t)) ≡ listed (t .reads) (length (t .counts)) (missesBy (t .counts))
 unfolding printedAt finishBy
 print-tally t = refl
 
@@ -79,16 +77,6 @@ counted reads extents stack counts g =
       short = g .short;
       whole = omega (arith, g .all);
     }
-
--- the listing by the counts is that of the tally
-listed-tally : (reads extents : ℕ) (stack counts : List ℕ) → Tallied reads extents stack counts
-    → listed reads (length (take extents counts)) (missesBy (take extents counts)) ≡ printedAt (at 0 [] (whole (tallyIn reads extents stack counts)))
-listed-tally reads extents stack counts g =
-    let e : length (take extents counts) ≡ length (take extents stack) =
-    length-take-le extents counts (omega arith) ∙ sym (length-take-le extents stack (omega arith)) in
-    listed-same reads (length (take extents counts)) (missesBy (take extents counts)) (missesIn (tallyIn reads extents stack counts)) (λ c. ap (λ (n : ℕ). n + sum (drop c (take extents counts))) e)
-    ∙ ap (λ (n : ℕ). listed reads n (missesIn (tallyIn reads extents stack counts))) e
-    ∙ sym (print-tally (tallyIn reads extents stack counts))
 
 -- a phase whose text is taken whole
 whole-phase : (p : Phase) (s t : Tally) → takenBy p s ≡ to (whole t) → p ≡ Whole
@@ -135,10 +123,11 @@ module _ (l : Lister) where
         ∙ verdict-tally (tallyIn (l .reads) (l .extents) (l .stack) (l .counts)))
 
     -- a listed one prints the listing of its tally
-    pub prints-listed : verdictAt (stateOf l) ≡ Listed → Tallied (l .reads) (l .extents) (l .stack) (l .counts)
+    pub prints-listed : verdictAt (stateOf l) ≡ Listed
         → listed (l .reads) (length (take (l .extents) (l .counts))) (missesBy (take (l .extents) (l .counts))) ≡ printedAt (stateOf l)
-    prints-listed e g =
+    prints-listed e =
         let t = tallyIn (l .reads) (l .extents) (l .stack) (l .counts) in
         let w = whole-at (takenBy (l .phase) t) (take (l .held) (l .line)) (sym (ap verdictAt (state-sound l h)) ∙ e) in
-        listed-tally (l .reads) (l .extents) (l .stack) (l .counts) g
-        ∙ sym (ap printedAt (by-phase Whole (whole-phase (l .phase) t (w .0) (w .1))) ∙ ap (λ (held : List ℕ). printedAt (at 0 held (whole t))) (w .2))
+        sym (ap printedAt (by-phase Whole (whole-phase (l .phase) t (w .0) (w .1)))
+        ∙ ap (λ (held : List ℕ). printedAt (at 0 held (whole t))) (w .2)
+        ∙ print-tally t)

@@ -13,3 +13,4 @@ pub mod Feeds
 pub mod Soundness
 pub mod Cuttings
 pub mod Finishing
+pub mod Lengths

@@ -1,20 +1,19 @@
 -- A line by how far the text is: one law for each way that the code returns.
 use mathlib.Core.Path.{_≡_, refl, sym, ap, subst, _∙_}
-use Prim.Native.Nat.{ℕ, _+_, _≤_}
+use Prim.Native.Nat.{ℕ}
 use native.Mathlib.Omega.{arith}
 use mathlib.Core.List.{List, [], _∷_}
-use mathlib.Core.Bool.{Bool, true, false, cond}
+use mathlib.Core.Bool.{Bool}
 use mathlib.Core.Option.{Option, none, some}
 use lib.Dec.{eqb}
-use lib.ListN.{length}
 use Rattle.reuse.specs.Lists.{distinct, sum}
 use Rattle.reuse.proofs.Lists.{by-test}
 use Rattle.texts.specs.Words.{after}
 use Rattle.texts.specs.Lines.{to, no}
 use Rattle.texts.specs.Logs.{Row, row, badRow, rowOf, traceWord}
 use Rattle.texts.proofs.Tests.{never}
-use Rattle.listing.specs.Tallies.{Tally, noReads}
-use Rattle.listing.specs.Feeding.{empty, inside, whole, takeRow, takeHead, takeLine}
+use Rattle.listing.specs.Tallies.{noReads}
+use Rattle.listing.specs.Feeding.{inside, whole, takeRow, takeHead, takeLine}
 use Rattle.listing.specs.Listers.{rowFound, headFound, tallyIn, Tallied, takenBy, takenIn, HeadTaken, HeadKept, andThen}
 use Rattle.listing.specs.declared.lines.Row.the-variants.{Read, Bad}
 use Rattle.listing.specs.declared.lines.Head.the-variants.{Open, Closed, Bad as BadHead}

@@ -8,13 +8,14 @@ use lib.Dec.{eqb}
 use lib.ListN.{length}
 use Rattle.reuse.specs.Lists.{firsts}
 use Rattle.reuse.specs.Lru.{reuses, missesAt}
+use Rattle.reuse.specs.Summary.{histogram}
 use Rattle.reuse.proofs.Lists.{by-test}
-use Rattle.reuse.proofs.Stack.{length-stack}
+use Rattle.reuse.proofs.Words.{length-histogram}
 use Rattle.texts.specs.Words.{after}
 use Rattle.texts.specs.Lines.{Answer, to, no, Fed, at, stopped, got, unless, lineDone, byte, feedBy, finishBy}
 use Rattle.texts.specs.Logs.{traceWord, Row, row, badRow, rowOf, Logged, empty, inside, whole, overRead, read, rowBy, headBy, logStep, logRoom, logFeed, start, feed, finish, logOf}
 use Rattle.texts.proofs.Feeding.{feed-append}
-use Rattle.listing.specs.Tallies.{tallied, missesIn, tallyOf}
+use Rattle.listing.specs.Tallies.{tallied, missesBy, tallyOf}
 use Rattle.listing.specs.Listings.{atRows, listed, sizesOf, outputOf, listingOf}
 use Rattle.listing.specs.Feeding.{Taken, taken, takeRow, takeHead, takeLine, State, takePiece, printedBy, printedAt, verdictBy, verdictAt}
 use Rattle.listing.proofs.Tallies.{tally-none, tally-more, over-same, misses-same}
@@ -123,8 +124,8 @@ listed-same reads cold f g h = rw (rows-same f g h cold 1)
 pub tally-prints : (t : List ℕ) → printedBy (got (tallyOf t)) ≡ sizesOf t
 unfolding tallyOf sizesOf
 tally-prints t =
-    rw (length-stack t)
-    (listed-same (length t) (length (firsts t)) (missesIn (tallyOf t)) (λ c. missesAt c (reuses [] t)) (misses-same t))
+    rw (length-histogram t)
+    (listed-same (length t) (length (firsts t)) (missesBy (histogram t)) (λ c. missesAt c (reuses [] t)) (misses-same t))
 
 -- the end prints the same for both
 pub print-refines : (f : Fed Logged) → printedAt (fedMap f) ≡ outputOf (finish f)

@@ -9,7 +9,8 @@ use Rattle.reuse.proofs.Sums.{sum-drop}
 use Rattle.texts.specs.Bytes.{bytes}
 use Rattle.texts.specs.Digits.{decimal}
 use Rattle.listing.specs.Listings.{atRow, atRows, listed, refusedText}
-use Rattle.listing.specs.Pages.{Put, Counted, closing, lineEnd, missesBy, endRoom, numberRoom, rowRoom, pageBytes}
+use Rattle.listing.specs.Tallies.{missesBy}
+use Rattle.listing.specs.Pages.{Put, Counted, closing, lineEnd, endRoom, numberRoom, rowRoom, pageBytes}
 use Rattle.listing.proofs.PageLaws.{put-then, put-same}
 
 -- a number put within its room
@@ -21,7 +22,7 @@ abbrev Ended : List ℕ → ℕ → ℕ → List ℕ → ℕ → Type 0
 Ended was at rows page next = Put was at (lineEnd (closing rows)) page next × (next ≤ at + endRoom)
 
 -- the row of one size with its line's end
-abbrev rowAt : ℕ → ℕ → ℕ → List ℕ
+abbrev pub rowAt : ℕ → ℕ → ℕ → List ℕ
 rowAt c n rows = atRow c n (closing rows) ++ (10 ∷ [])
 
 -- a row put within its room
@@ -38,7 +39,7 @@ row-put c n rows p q s t u = (
 )
 
 -- the first of the rows, and the others
-rows-cons : (m : ℕ → ℕ) (c k : ℕ) → atRows m c (suc k) ≡ rowAt c (m c) k ++ atRows m (suc c) k
+pub rows-cons : (m : ℕ → ℕ) (c k : ℕ) → atRows m c (suc k) ≡ rowAt c (m c) k ++ atRows m (suc c) k
 unfolding atRows
 rows-cons m c zero = sym (append-nil (rowAt c (m c) 0))
 rows-cons m c (suc k) = sym (append-assoc (atRow c (m c) 1) (10 ∷ []) (atRows m (suc c) (suc k)))

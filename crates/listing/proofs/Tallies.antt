@@ -18,7 +18,7 @@ use Rattle.reuse.proofs.Counts.{count-snoc}
 use Rattle.reuse.proofs.Words.{length-histogram}
 use Rattle.reuse.proofs.Join.{histogram-at}
 use Rattle.reuse.proofs.Misses.{above-count, cold-count}
-use Rattle.listing.specs.Tallies.{noReads, countedWith, tallied, overTally, missesIn, tallyOf}
+use Rattle.listing.specs.Tallies.{noReads, countedWith, tallied, overTally, missesBy, tallyOf}
 use Rattle.texts.specs.Logs.{overRead}
 
 -- no reads have the tally of none
@@ -90,7 +90,7 @@ pub over-same : (t : List ℕ) (x : ℕ) → overTally (tallyOf t) x ≡ overRea
 unfolding tallyOf
 over-same t x = rw (mem-stack x t, length-stack t)
 
--- the misses in the tally of a trace are those by its distances
-pub misses-same : (t : List ℕ) (c : ℕ) → missesIn (tallyOf t) c ≡ missesAt c (reuses [] t)
-unfolding tallyOf missesAt
-misses-same t c = rw (length-stack t, above-count c t, cold-count t)
+-- the misses by the counts of a trace are those by its distances
+pub misses-same : (t : List ℕ) (c : ℕ) → missesBy (histogram t) c ≡ missesAt c (reuses [] t)
+unfolding missesAt
+misses-same t c = rw (length-histogram t, above-count c t, cold-count t)

@@ -1,29 +1,29 @@
 -- A read taken into the rows of a tally: one law for each way that the code returns.
 use mathlib.Core.Path.{_≡_, refl, sym, ap, subst, _∙_}
-use Prim.Native.Nat.{ℕ, zero, suc, pred, _+_, _-_, _≤_, _<_}
+use Prim.Native.Nat.{ℕ, suc, pred, _+_, _-_, _≤_, _<_}
 use native.Mathlib.Omega.{arith}
 use native.Mathlib.Numerals.{add-one}
 use mathlib.Core.List.{List, [], _∷_, _++_}
 use mathlib.Core.Bool.{Bool, true, false, cond}
-use lib.ListN.{length, take, drop, getD, set, length-set}
+use lib.ListN.{length, take, getD, set, length-set}
 use lib.Seq.{length-take-le, take-suc-set, take-set-lt, getD-take}
 use borrow.Author.Tests.{le-ltb, lt-ltb, le-leb, lt-leb}
 use Rattle.reuse.specs.Limits.{maxReads, maxExtents}
-use Rattle.reuse.specs.Lists.{mem, distinct, sum}
-use Rattle.reuse.specs.Lru.{cold, at, depth, touch}
+use Rattle.reuse.specs.Lists.{mem, sum}
+use Rattle.reuse.specs.Lru.{at, depth, touch}
 use Rattle.reuse.specs.Engine.{placeOf, leftBy}
-use Rattle.reuse.specs.declared.Place.the-variants.{Cold, Depth, Full, BadCount}
+use Rattle.reuse.specs.declared.Place.the-variants.{Cold, Depth, Full}
 use Rattle.reuse.proofs.Lists.{by-test}
 use Rattle.reuse.proofs.Depth.{depth-absent, cold-absent}
 use Rattle.reuse.proofs.Stack.{distinct-touch}
 use Rattle.reuse.proofs.Sums.{sum-more, at-le-sum}
 use Rattle.reuse.proofs.Engine.{place-depth, place-range, place-cold, place-room, place-full, touched-known, touched-new}
 use Rattle.texts.specs.Limits.{maxExtent}
-use Rattle.texts.specs.Lines.{Answer, to, no, unless}
+use Rattle.texts.specs.Lines.{to, no, unless}
 use Rattle.texts.specs.Logs.{row}
 use Rattle.texts.proofs.Tests.{never}
-use Rattle.listing.specs.Tallies.{Tally, countedWith, tallied, overTally}
-use Rattle.listing.specs.Feeding.{Taken, taken, takeRow}
+use Rattle.listing.specs.Tallies.{Tally, tallied, overTally}
+use Rattle.listing.specs.Feeding.{taken, takeRow}
 use Rattle.listing.specs.Listers.{tallyIn, Tallied, takenBy, takenIn}
 use Rattle.listing.specs.declared.Phase.the-variants.{Inside, Whole, Stopped}
 use Rattle.listing.specs.declared.taking.Progress.{Progress}

@@ -1,15 +1,14 @@
 -- A piece taken line by line: what each turn leaves to do is what was left before it.
 use mathlib.Core.Path.{_≡_, refl, sym, ap, subst, _∙_}
-use Prim.Native.Nat.{ℕ, zero, suc, _+_, _-_, _≤_, _<_}
+use Prim.Native.Nat.{ℕ, suc, _+_, _-_, _≤_, _<_}
 use native.Mathlib.Omega.{arith}
-use mathlib.Core.List.{List, [], _∷_, _++_, append-nil, append-assoc}
-use mathlib.Core.Bool.{Bool, true, false, cond}
+use mathlib.Core.List.{List, [], _∷_, _++_}
+use mathlib.Core.Bool.{true, false}
 use lib.Dec.{eqb}
 use lib.ListN.{length, take, drop, getD, length-append, length-drop, take-append-drop}
 use lib.Seq.{length-take-le, take-all, take-suc, split-at, drop-drop}
 use borrow.Author.Tests.{lt-ltb, le-ltb}
-use Rattle.reuse.proofs.Lists.{by-test}
-use Rattle.texts.specs.Lines.{Answer, to, no, Fed, at, stopped, byte, feedBy, lineDone, lineCount}
+use Rattle.texts.specs.Lines.{Answer, to, no, at, stopped, byte, feedBy, lineDone, lineCount}
 use Rattle.texts.specs.Logs.{longestLine, logRoom}
 use Rattle.texts.proofs.Tests.{never}
 use Rattle.texts.proofs.Feeding.{count-end, count-append, feed-append, absorb, feed-rest, by-byte}

@@ -1,14 +1,14 @@
 -- A log text taken in pieces by tallies: what each line does, and what the end gives.
-use Prim.Native.Nat.{ℕ, zero, suc}
+use Prim.Native.Nat.{ℕ}
 use mathlib.Core.List.{List, [], _∷_}
 use mathlib.Core.Bool.{Bool, cond}
 use mathlib.Core.Option.{Option, none, some}
 use lib.Dec.{eqb}
 use lib.ListN.{length}
 use Rattle.texts.specs.Words.{after}
-use Rattle.texts.specs.Lines.{Answer, to, no, Fed, at, stopped, Read, got, refused, unless, feedBy, finishBy}
+use Rattle.texts.specs.Lines.{Answer, to, no, Fed, Read, got, refused, unless, feedBy, finishBy}
 use Rattle.texts.specs.Logs.{traceWord, Row, row, badRow, rowOf, logRoom}
-use Rattle.listing.specs.Tallies.{Tally, noReads, tallied, overTally, missesIn}
+use Rattle.listing.specs.Tallies.{Tally, noReads, tallied, overTally, missesBy}
 use Rattle.listing.specs.Listings.{listed, refusedText}
 use Rattle.listing.specs.declared.Verdict.{Verdict}
 use Rattle.listing.specs.declared.Verdict.the-variants.{Listed, Refused}
@@ -57,7 +57,7 @@ takenWhole (whole t) = some t
 
 -- by the answer at the end: the whole output
 abbrev pub printedBy : Read Tally → List ℕ
-printedBy (got t) = listed (t .reads) (length (t .recent)) (missesIn t)
+printedBy (got t) = listed (t .reads) (length (t .counts)) (missesBy (t .counts))
 printedBy (refused line n) = refusedText n
 
 -- the whole output at the end of the text

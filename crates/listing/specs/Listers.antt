@@ -2,16 +2,15 @@
 use mathlib.Core.Path.{_≡_}
 use Prim.Native.Nat.{ℕ, zero, suc, _+_, _-_, _≤_, _<_}
 use mathlib.Core.List.{List, [], _∷_}
-use mathlib.Core.Bool.{Bool, true, false, cond, _&&_}
+use mathlib.Core.Bool.{Bool, true, false, cond, not, _&&_}
 use mathlib.Core.Option.{Option, none, some}
 use lib.Dec.{eqb, leb}
 use lib.ListN.{length, take, drop}
 use Rattle.reuse.specs.Limits.{maxReads, maxExtents}
 use Rattle.reuse.specs.Lists.{distinct, sum}
-use Rattle.texts.specs.Lines.{Answer, to, no, Fed, at, stopped}
+use Rattle.texts.specs.Lines.{Answer, to, no, at, stopped}
 use Rattle.texts.specs.Words.{after}
-use Rattle.texts.specs.Logs.{traceWord, row, badRow, longestLine}
-use Rattle.texts.specs.Logs.{Row as LogRow}
+use Rattle.texts.specs.Logs.{traceWord, Row as LogRow, row, badRow, longestLine}
 use Rattle.listing.specs.Tallies.{Tally}
 use Rattle.listing.specs.Feeding.{Taken, empty, inside, whole, takeHead, takeLine, State, takePiece}
 use Rattle.listing.specs.declared.lines.Row.{Row}
@@ -109,6 +108,10 @@ isStopped Empty = false
 isStopped Inside = false
 isStopped Whole = false
 isStopped (Stopped n) = true
+
+-- a lister that takes more of its text: sound, and not refused
+abbrev pub takesMore : Lister → Bool
+takesMore l = not (isStopped (l .phase)) && soundLister l
 
 -- the state of a phase, a tally in its rows and the bytes held
 abbrev pub stateIn : Phase → ℕ → ℕ → List ℕ → List ℕ → List ℕ → State

@@ -2,7 +2,7 @@
 use mathlib.Core.Path.{_≡_}
 use Prim.Native.Nat.{ℕ, zero, suc, _+_, _≤_}
 use mathlib.Core.List.{List, [], _∷_, _++_}
-use lib.ListN.{length, take, drop}
+use lib.ListN.{length, take}
 use Rattle.reuse.specs.Limits.{maxReads, maxExtents}
 use Rattle.reuse.specs.Lists.{sum}
 use Rattle.texts.specs.Words.{close}
@@ -36,10 +36,6 @@ closing (suc k) = 1
 -- so many brackets and the line's end
 abbrev pub lineEnd : ℕ → List ℕ
 lineEnd closes = close closes ++ (10 ∷ [])
-
--- the misses at size c, by the counts of the distances: cold reads, as many as there are counts, plus reads of distance above c
-abbrev pub missesBy : List ℕ → ℕ → ℕ
-missesBy counts c = length counts + sum (drop c counts)
 
 -- the reads are the cold ones and those that the counts count, within the limits
 pub record Counted (reads : ℕ) (counts : List ℕ) : Type 0 where

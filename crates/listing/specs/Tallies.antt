@@ -6,7 +6,7 @@ use lib.Dec.{ltb, leb}
 use lib.ListN.{length, drop, getD, set}
 use Rattle.reuse.specs.Limits.{maxReads, maxExtents}
 use Rattle.reuse.specs.Lists.{mem, sum}
-use Rattle.reuse.specs.Lru.{Reuse, cold, at, depth, touch, stack, reuses}
+use Rattle.reuse.specs.Lru.{Reuse, cold, at, depth, touch, stack}
 use Rattle.reuse.specs.Summary.{histogram}
 use Rattle.texts.specs.Limits.{maxExtent}
 
@@ -38,9 +38,9 @@ abbrev pub overTally : Tally → ℕ → ℕ
 overTally t x =
     cond (ltb maxExtent x) 2 (cond (leb maxReads (t .reads)) 8 (cond (mem x (t .recent)) 0 (cond (leb maxExtents (length (t .recent))) 9 0)))
 
--- the misses at size c: cold reads plus reads of distance above c
-abbrev pub missesIn : Tally → ℕ → ℕ
-missesIn t c = length (t .recent) + sum (drop c (t .counts))
+-- the misses at size c, by the counts of the distances: cold reads, as many as there are counts, plus reads of distance above c
+abbrev pub missesBy : List ℕ → ℕ → ℕ
+missesBy counts c = length counts + sum (drop c counts)
 
 -- the tally of a trace
 unfoldable pub tallyOf : List ℕ → Tally

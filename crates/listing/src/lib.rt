@@ -9,11 +9,11 @@ mod turning;
 ghost use mathlib.Core.Path.{_≡_};
 ghost use mathlib.Core.List.{[]};
 ghost use Prim.Native.Nat.{_≤_};
-ghost use mathlib.Core.Bool.{not, _&&_};
+ghost use mathlib.Core.Bool.{false};
 ghost use lib.ListN.{take};
 ghost use Rattle.texts.specs.Lines.{at};
 ghost use Rattle.listing.specs.Feeding.{empty, takePiece, printedAt, verdictAt};
-ghost use Rattle.listing.specs.Listers.{isStopped, soundLister, stateOf, unnumbered};
+ghost use Rattle.listing.specs.Listers.{soundLister, stateOf, takesMore, unnumbered};
 ghost use Rattle.listing.specs.Pages.{pageBytes};
 
 // The bytes of a page.
@@ -90,7 +90,7 @@ impl Lister {
 
     // Whether the lister is sound and its text not refused.
     fn goes(self) -> bool
-        ensures { λ r. ⌜ r ≡ (not (isStopped (self .phase)) && soundLister self) ⌝ }
+        ensures { λ r. ⌜ r ≡ takesMore self ⌝ }
     {
         let phase = self.phase;
         if turning::stopped(phase) {
@@ -99,9 +99,10 @@ impl Lister {
         self.sound()
     }
 
-    // One piece of the text more. A lister that is not sound, or that is refused, stays as it is.
+    // One piece of the text more. A lister that is not sound, or that is refused, comes back word for word.
     pub fn feed(self, bytes: &[u8]) -> Lister
-        ensures { λ r. ⌜ stateOf r ≡ unnumbered (takePiece (stateOf self) (now (bytes .entry))) ⌝ }
+        ensures is { λ r. ⌜ stateOf r ≡ unnumbered (takePiece (stateOf self) (now (bytes .entry))) ⌝ }
+        ensures kept { λ r. ⌜ (takesMore self ≡ false → r ≡ self) ⌝ }
     {
         if !self.goes() {
             return self;

@@ -7,7 +7,8 @@ ghost use Prim.Native.Nat.{_+_, _*_, _≤_};
 ghost use lib.ListN.{length, take};
 ghost use Rattle.texts.specs.Digits.{decimal};
 ghost use Rattle.listing.specs.Listings.{atRow, atRows, listed, refusedText};
-ghost use Rattle.listing.specs.Pages.{Put, Counted, closing, lineEnd, missesBy, endRoom, numberRoom, rowRoom, pageBytes};
+ghost use Rattle.listing.specs.Tallies.{missesBy};
+ghost use Rattle.listing.specs.Pages.{Put, Counted, closing, lineEnd, endRoom, numberRoom, rowRoom, pageBytes};
 
 // The byte of a digit.
 fn digit(n: u32) -> u8

@@ -5,8 +5,8 @@ use crate::taking;
 use crate::taking::Progress;
 ghost use mathlib.Core.Path.{_≡_};
 ghost use mathlib.Core.List.{_++_};
-ghost use Prim.Native.Nat.{_-_, _≤_};
-ghost use lib.ListN.{length, take, drop};
+ghost use Prim.Native.Nat.{_-_};
+ghost use lib.ListN.{take, drop};
 ghost use Rattle.listing.specs.Listers.{Tallied, tallyIn, takenBy, takenIn, andThen, isStopped, stateIn, Ending, Turnable, Turned};
 
 // The bytes of the longest line.

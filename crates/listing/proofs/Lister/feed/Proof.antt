@@ -1,12 +1,13 @@
 -- `listing::Lister::feed` meets its contract.
 use mathlib.Core.Path.{_≡_, refl, sym, ap, _∙_}
-use Prim.Native.Nat.{ℕ, _-_, _≤_}
+use Prim.Native.Nat.{_-_}
 use native.Mathlib.Omega.{arith}
 use mathlib.Core.Bool.{true, false}
 use lib.ListN.{length, take}
 use borrow.Author.Tests.{not-true, not-false}
+use Rattle.texts.proofs.Tests.{never}
 use Rattle.listing.specs.Feeding.{State, takePiece}
-use Rattle.listing.specs.Listers.{stateIn, unnumbered, isStopped, soundLister}
+use Rattle.listing.specs.Listers.{stateIn, unnumbered, isStopped, soundLister, takesMore}
 use Rattle.listing.proofs.Feeds.{idle-stays, goes-on, Fed, fed-start, fed-more, fed-turn, fed-end}
 use Rattle.listing.proofs.Soundness.{sound-facts, state-sound}
 use borrow.Author.Needs.{needs}
@@ -20,15 +21,21 @@ Inv-loop bytes phase₀ line₀ held₀ reads₀ extents₀ stack₀ counts₀ a
 abbrev μ-loop : tie.MeasureT-loop
 μ-loop bytes phase₀ line₀ held₀ reads₀ extents₀ stack₀ counts₀ at₀ phase line held reads extents stack counts at = length bytes - at
 
--- the lister goes on and is sound
+-- a lister that the code has found to take more
+takes : (c : tie.Else1 Inv-loop μ-loop) → takesMore (c .before .before .before .args .self) ≡ true
+takes c = sym (c .before .goes .ensures) ∙ not-false (c .before .goes .result) (c .if1 .left)
+
+-- it is not refused, and sound
 sound-is : (c : tie.Else1 Inv-loop μ-loop) → (isStopped (c .before .before .before .args .self .phase) ≡ false) × (soundLister (c .before .before .before .args .self) ≡ true)
-sound-is c = goes-on (c .before .before .before .args .self) (sym (c .before .goes .ensures) ∙ not-false (c .before .goes .result) (c .if1 .left))
+sound-is c = goes-on (c .before .before .before .args .self) (takes c)
 
 goes-requires : tie.Need-goes-requires Inv-loop μ-loop
 goes-requires c κs = search needs
 
 returns : tie.Need-returns Inv-loop μ-loop
-returns c = let a = c .before .before .before .args in idle-stays (a .self) (a .bytes .now) (sym (c .before .goes .ensures) ∙ not-true (c .before .goes .result) (c .if1 .taken))
+returns c =
+    let a = c .before .before .before .args in
+    (idle-stays (a .self) (a .bytes .now) (sym (c .before .goes .ensures) ∙ not-true (c .before .goes .result) (c .if1 .taken)), λ e. refl)
 
 loop-holds : tie.Need-loop-holds Inv-loop μ-loop
 loop-holds c =
@@ -62,7 +69,8 @@ returns-2 : tie.Need-returns-2 Inv-loop μ-loop
 returns-2 c =
     let a = c .before .before .before .before .before .before .before .before .args in
     let s = sound-is (c .before .before .before .before .before) .1 in
-    fed-end _ _ _ _ _ _ _ _ _ _ (c .before .loop .inv) (omega arith) _ refl ∙ ap (λ (v : State). unnumbered (takePiece v (a .bytes .now))) (sym (state-sound (a .self) s))
+    let e = fed-end _ _ _ _ _ _ _ _ _ _ (c .before .loop .inv) (omega arith) _ refl ∙ ap (λ (v : State). unnumbered (takePiece v (a .bytes .now))) (sym (state-sound (a .self) s)) in
+    (e, λ z. let q : true ≡ false = sym (takes (c .before .before .before .before .before)) ∙ z in never (cc))
 
 pub feed-spec : {M : Type 1} → statement M
 feed-spec =

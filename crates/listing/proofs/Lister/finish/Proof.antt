@@ -63,7 +63,7 @@ returns-2 : tie.Need-returns-2
 returns-2 c =
     let s = c .before .before .before in
     let l = s .before .before .before .args .self in
-    (c .listing-page .ensures .0 ∙ prints-listed l (listed-sound l (is-listed s)) (is-listed s) (tally s), c .listing-page .ensures .1)
+    (c .listing-page .ensures .0 ∙ prints-listed l (listed-sound l (is-listed s)) (is-listed s), c .listing-page .ensures .1)
 
 pub finish-spec : {M : Type 1} → statement M
 finish-spec =

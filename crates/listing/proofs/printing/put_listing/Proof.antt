@@ -1,6 +1,6 @@
 -- `listing::printing::put_listing` meets its contract.
 use lib.ListN.{length}
-use Rattle.listing.specs.Pages.{missesBy}
+use Rattle.listing.specs.Tallies.{missesBy}
 use Rattle.listing.proofs.RowLaws.{listing-put}
 use borrow.Author.Needs.{needs}
 use Rattle.listing.proofs.printing.put_listing.Statement.{statement}

@@ -1,5 +1,5 @@
 -- `listing::taking::take_head` meets its contract.
-use mathlib.Core.Path.{_≡_, sym, _∙_}
+use mathlib.Core.Path.{sym, _∙_}
 use Rattle.listing.proofs.Phases.{head-begun, head-ended, head-refused}
 use borrow.Author.Needs.{needs}
 use Rattle.listing.proofs.taking.take_head.Statement.{statement}

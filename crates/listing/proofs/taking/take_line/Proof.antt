@@ -1,5 +1,5 @@
 -- `listing::taking::take_line` meets its contract.
-use mathlib.Core.Path.{_≡_, sym, ap, _∙_}
+use mathlib.Core.Path.{sym, _∙_}
 use Rattle.listing.proofs.Phases.{at-head, at-bad, at-row, at-end, at-stop}
 use borrow.Author.Needs.{needs}
 use Rattle.listing.proofs.taking.take_line.Statement.{statement}
