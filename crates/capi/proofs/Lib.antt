@@ -1,0 +1,5 @@
+pub mod Signed
+pub mod Small
+pub mod Laid
+pub mod Kept
+pub mod Listed
