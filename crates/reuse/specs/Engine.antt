@@ -1,12 +1,14 @@
 -- An LRU stack in the first n words of a slice: what bringing an extent to its top answers, and the words it leaves.
-use Prim.Native.Nat.{ℕ, suc}
+use mathlib.Core.Path.{_≡_}
+use Prim.Native.Nat.{ℕ, suc, _≤_}
 use mathlib.Core.List.{List, _∷_, _++_}
-use mathlib.Core.Bool.{Bool, cond}
+use mathlib.Core.Bool.{Bool, false, cond}
 use lib.Dec.{leb, ltb}
-use lib.ListN.{length, take, drop, replicate}
+use lib.ListN.{length, take, drop, getD, replicate}
 use Rattle.reuse.specs.declared.Place.{Place}
 use Rattle.reuse.specs.declared.Place.the-variants.{Cold, Depth, Full, BadCount}
 use Rattle.reuse.specs.Limits.{maxExtents}
+use Rattle.reuse.specs.Lists.{mem}
 use Rattle.reuse.specs.Lru.{Reuse, cold, at, depth}
 
 -- the answer by the extent's depth, and by whether there is room for one more
@@ -35,6 +37,25 @@ heldAfter Cold n = suc n
 heldAfter (Depth d) n = n
 heldAfter Full n = n
 heldAfter BadCount n = n
+
+-- the first i words of s moved one place down, with x before them
+pub record Shifted (s : List ℕ) (x : ℕ) (row : List ℕ) (carry i : ℕ) : Type 0 where
+  -- s has that many
+  pub within : i ≤ length s
+  -- the words now
+  pub moved : row ≡ take i (x ∷ s) ++ drop i s
+  -- the word for the next place
+  pub hand : carry ≡ getD (x ∷ s) i 0
+
+-- the same within the first n words, with x not among those passed
+pub record Sunk (s : List ℕ) (x n : ℕ) (row : List ℕ) (carry i : ℕ) : Type 0 where
+  -- the words that moved
+  pub shift : Shifted s x row carry i
+  -- they are among the n, and the n in s
+  pub below : i ≤ n
+  pub fits : n ≤ length s
+  -- none of them is x
+  pub passed : mem x (take i s) ≡ false
 
 -- a stack of these extents: as many as the limit, 0 in the places below them
 unfoldable pub stackWords : List ℕ → List ℕ

@@ -3,11 +3,11 @@ pub mod rows;
 
 ghost use mathlib.Core.Path.{_≡_};
 ghost use mathlib.Core.List.{[], _∷_, _++_};
-ghost use Prim.Native.Nat.{suc, min};
+ghost use Prim.Native.Nat.{suc, min, _≤_};
 ghost use lib.ListN.{length, drop};
 ghost use Rattle.reuse.specs.Limits.{maxReads, maxExtents, slotCount, sumCount, levels};
 ghost use Rattle.reuse.specs.Lists.{mem, firsts};
-ghost use Rattle.reuse.specs.Engine.{placeOf, leftBy, stackWords};
+ghost use Rattle.reuse.specs.Engine.{placeOf, leftBy, Shifted, Sunk, stackWords};
 
 // The most reads of a trace.
 pub const MAX_READS: u32 = 1048576;
@@ -54,6 +54,15 @@ pub enum Place {
     BadCount,
 }
 
+// How many words of a stack are looked at together.
+const BLOCK: usize = 8;
+
+// How many words of a stack were passed, and the word that goes to the next place.
+struct Passed {
+    count: usize,
+    carry: u32,
+}
+
 // x comes to the top of the stack in the first n words: looked for from the top, what is passed moves one place down.
 pub fn touch(stack: &mut [u32], n: usize, x: u32) -> Place
     ensures { λ r. ⌜ (r ≡ placeOf (now (stack .entry)) n x) × (now (stack .exit) ≡ leftBy r n x (now (stack .entry))) ⌝ }
@@ -61,8 +70,9 @@ pub fn touch(stack: &mut [u32], n: usize, x: u32) -> Place
     if stack.len() < n {
         return Place::BadCount;
     }
-    let mut carry = x;
-    let mut i: usize = 0;
+    let passed = pass(stack, n, x);
+    let mut carry = passed.carry;
+    let mut i = passed.count;
     while i < n {
         let y = stack[i];
         stack[i] = carry;
@@ -78,6 +88,42 @@ pub fn touch(stack: &mut [u32], n: usize, x: u32) -> Place
     }
     move_back(stack, carry);
     Place::Full
+}
+
+// From the top on, blocks of the first n words move one place down whole, with x before them, up to one that holds x.
+fn pass(stack: &mut [u32], n: usize, x: u32) -> Passed
+    requires { ⌜ n ≤ length (now stack) ⌝ }
+    ensures { λ r. ⌜ Sunk (now (stack .entry)) x n (now (stack .exit)) (r .carry) (r .count) ⌝ }
+{
+    let mut carry = x;
+    let mut i: usize = 0;
+    while BLOCK <= n - i {
+        let end = i + BLOCK;
+        if contains(&stack[i..end], x) {
+            break;
+        }
+        carry = down(&mut stack[i..end], carry);
+        i = end;
+    }
+    Passed {
+        count: i,
+        carry: carry,
+    }
+}
+
+// Each word moves one place down, `first` comes in on top, and the last comes out.
+fn down(row: &mut [u32], first: u32) -> u32
+    ensures { λ r. ⌜ Shifted (now (row .entry)) first (now (row .exit)) r (length (now (row .entry))) ⌝ }
+{
+    let mut carry = first;
+    let mut i: usize = 0;
+    while i < row.len() {
+        let y = row[i];
+        row[i] = carry;
+        carry = y;
+        i = i + 1;
+    }
+    carry
 }
 
 // Each word moves one place up, the first is lost, and `last` comes in below.
