@@ -5,7 +5,7 @@ use native.Mathlib.Omega.{arith}
 use mathlib.Core.List.{List, [], _∷_, _++_, reverse, append-nil, reverse-cons}
 use mathlib.Core.Bool.{Bool, true, false, cond, not, _&&_, _||_, or-true, or-false, or-assoc, or-comm, and-false}
 use lib.Dec.{eqb}
-use lib.ListN.{length, take, getD, length-append}
+use lib.ListN.{length, getD, length-append}
 use borrow.Author.Tests.{eqb-true, eqb-false, eq-eqb, ne-eqb}
 use Rattle.reuse.specs.Lists.{mem, remove, cleanup, firsts, inside, outside}
 
@@ -48,7 +48,7 @@ pub mem-tail : (x y : ℕ) (s : List ℕ) → mem x s ≡ true → mem x (y ∷ 
 unfolding mem
 mem-tail x y s h = simp (h, or-true)
 
--- a word of the front is a member of it
+-- the word at a place is a member
 pub mem-at : (l : List ℕ) (p x : ℕ) → p < length l → getD l p 0 ≡ x → mem x l ≡ true
 unfolding mem
 mem-at [] p x h e = absurd (omega arith)

@@ -5,9 +5,9 @@ use native.Mathlib.Omega.{arith}
 use native.Mathlib.Numerals.{add-one}
 use native.Mathlib.Decide.{ℕ-discrete}
 use mathlib.Core.List.{List, [], _∷_, _++_, append-assoc, append-nil}
-use mathlib.Core.Bool.{Bool, true, false, _||_, or-false}
+use mathlib.Core.Bool.{true, false, _||_, or-false}
 use lib.Dec.{eqb}
-use lib.ListN.{length, take, drop, getD, set, replicate, drop-of-length-le, take-append-drop, length-take, length-set, length-replicate}
+use lib.ListN.{length, take, drop, getD, set, replicate, drop-of-length-le, take-append-drop, length-take, length-set}
 use lib.Seq.{take-suc, take-all, getD-take, getD-set-same, getD-set-other}
 use borrow.Author.Tests.{eq-eqb, ne-eqb, eqb-true, eqb-false}
 use Rattle.reuse.specs.Limits.{maxExtents}
@@ -29,7 +29,7 @@ pub record Notes (table l : List ℕ) : Type 0 where
   pub noted : (y : ℕ) → mem y l ≡ true → getD table (bucketOf y) 0 ≡ 0 → ⊥
 
 -- no word is
-pub notes-start : (table : List ℕ) → length table ≡ tablePlaces → Notes table []
+notes-start : (table : List ℕ) → length table ≡ tablePlaces → Notes table []
 unfolding mem
 notes-start table w = record { wide = w; noted = λ y h e. clash h refl }
 
@@ -49,7 +49,7 @@ module _ (table l : List ℕ) (x n : ℕ) (u : Notes table l) where
       u .noted y (noted-before y k q) (sym (getD-set-other table (bucketOf x) (bucketOf y) (suc n) 0 q) ∙ e)
 
   -- one more word is noted
-  pub notes-more : Notes (set table (bucketOf x) (suc n)) (l ++ (x ∷ []))
+  notes-more : Notes (set table (bucketOf x) (suc n)) (l ++ (x ∷ []))
   notes-more = record {
     wide = length-set table (bucketOf x) (suc n) ∙ u .wide;
     noted = λ y k e. noted-there y k e (ℕ-discrete (bucketOf y) (bucketOf x));
