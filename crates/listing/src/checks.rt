@@ -1,23 +1,8 @@
-// The rows of a lister handed in: no extent twice, and what its counts add up to.
+// The rows of a lister handed in: what its counts add up to.
 ghost use mathlib.Core.Path.{_≡_};
 ghost use Prim.Native.Nat.{_≤_, _^_};
 ghost use lib.ListN.{length};
-ghost use Rattle.reuse.specs.Lists.{distinct, sum};
-
-// No word stands twice.
-pub fn all_distinct(s: &[u32]) -> bool
-    ensures { λ r. ⌜ r ≡ distinct (now (s .entry)) ⌝ }
-{
-    let mut i: usize = 0;
-    while i < s.len() {
-        let next = i + 1;
-        if reuse::contains(&s[next..], s[i]) {
-            return false;
-        }
-        i = next;
-    }
-    true
-}
+ghost use Rattle.reuse.specs.Lists.{sum};
 
 // The sum of at most 256 words.
 pub fn total(s: &[u32]) -> u64

@@ -38,26 +38,6 @@ unfolding count
 count-le p [] = omega arith
 count-le p (x ∷ l) = let i : count p l ≤ length l = count-le p l in by-test (p x) (λ e. simp e (omega arith)) (λ e. simp e (omega arith))
 
--- a word that is not counted is no member
-pub count-none : (l : List ℕ) (x : ℕ) → count (eqb x) l ≡ 0 → mem x l ≡ false
-unfolding count mem
-count-none [] x h = refl
-count-none (y ∷ l) x h =
-    by-test (eqb x y) (λ e. let z : suc (count (eqb x) l) ≡ 0 = simp e at h in absurd (omega arith)) (λ e. simp (e, count-none l x (simp e at h)))
-
--- a word that is counted is one
-pub count-some : (l : List ℕ) (x : ℕ) → (count (eqb x) l ≡ 0 → ⊥) → mem x l ≡ true
-unfolding count mem
-count-some [] x h = absurd (h refl)
-count-some (y ∷ l) x h = by-test (eqb x y) (λ e. simp e) (λ e. simp (e, count-some l x (simp e at h)))
-
--- the count tells whether x is a member
-pub count-test : (l : List ℕ) (x r : ℕ) → r ≡ count (eqb x) l → not (eqb r 0) ≡ mem x l
-count-test l x r e =
-    by-test (eqb r 0)
-    (λ q. rw q (sym (count-none l x (sym e ∙ eqb-true r 0 q))))
-    (λ q. rw q (sym (count-some l x (λ z. eqb-false r 0 q (e ∙ z)))))
-
 -- the distances among answers, in order
 unfoldable pub finite : List Reuse → List ℕ
 finite [] = []

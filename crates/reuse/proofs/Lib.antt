@@ -19,4 +19,5 @@ pub mod Traces
 pub mod Laying
 pub mod Slices
 pub mod Puts
+pub mod Lookups
 pub mod Examples

@@ -5,7 +5,7 @@ use native.Mathlib.Omega.{arith}
 use mathlib.Core.List.{List, [], _∷_, _++_, reverse, append-nil, reverse-cons}
 use mathlib.Core.Bool.{Bool, true, false, cond, not, _&&_, _||_, or-true, or-false, or-assoc, or-comm, and-false}
 use lib.Dec.{eqb}
-use lib.ListN.{length, take, getD, length-append}
+use lib.ListN.{length, getD, length-append}
 use borrow.Author.Tests.{eqb-true, eqb-false, eq-eqb, ne-eqb}
 use Rattle.reuse.specs.Lists.{mem, remove, cleanup, firsts, inside, outside}
 
@@ -48,13 +48,12 @@ pub mem-tail : (x y : ℕ) (s : List ℕ) → mem x s ≡ true → mem x (y ∷ 
 unfolding mem
 mem-tail x y s h = simp (h, or-true)
 
--- a word of the front is a member of it
-pub mem-at : (l : List ℕ) (n p x : ℕ) → p < n → n ≤ length l → getD l p 0 ≡ x → mem x (take n l) ≡ true
+-- the word at a place is a member
+pub mem-at : (l : List ℕ) (p x : ℕ) → p < length l → getD l p 0 ≡ x → mem x l ≡ true
 unfolding mem
-mem-at [] n p x h w e = absurd (omega arith)
-mem-at (y ∷ l) zero p x h w e = absurd (omega arith)
-mem-at (y ∷ l) (suc n) zero x h w e = simp (eq-eqb x y (sym e))
-mem-at (y ∷ l) (suc n) (suc p) x h w e = simp (mem-at l n p x (omega arith) (omega arith) e, or-true)
+mem-at [] p x h e = absurd (omega arith)
+mem-at (y ∷ l) zero x h e = simp (eq-eqb x y (sym e))
+mem-at (y ∷ l) (suc p) x h e = simp (mem-at l p x (omega arith) e, or-true)
 
 -- a member of two lists end to end is one of either
 pub mem-append : (x : ℕ) (a b : List ℕ) → mem x (a ++ b) ≡ mem x a || mem x b

@@ -1,5 +1,6 @@
 // Reuse distances: the definitions, their laws, and the engine of all batch work, an LRU stack in a lent slice.
 pub mod rows;
+pub mod tables;
 
 ghost use mathlib.Core.Path.{_≡_};
 ghost use mathlib.Core.List.{[], _∷_, _++_};

@@ -11,6 +11,7 @@ use crate::walk;
 use reuse::MAX_EXTENTS;
 use reuse::MAX_READS;
 use reuse::SLOTS;
+use reuse::tables;
 
 // The part of the test that is of the marks: below next, tidy, and summed.
 pub fn marks_hold<'a>(slots: &'a [u32; 512], sums: &'a [u32; 1023], next: usize) -> bool
@@ -61,9 +62,10 @@ pub fn intact<'a>(
     if list::total(hist, v) + v as u64 != reads as u64 {
         return false;
     }
-    if !list::apart(first, v) {
+    let extents: &[u32] = first;
+    if !tables::all_distinct(&extents[..v]) {
         return false;
     }
     let marked = row::gather(slots, sums);
-    list::within(first, &marked[..], v)
+    tables::all_in(&extents[..v], &marked[..v])
 }

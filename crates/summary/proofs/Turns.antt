@@ -1,73 +1,17 @@
--- A turn of each loop that tests, sums or adds a row of words.
-use mathlib.Core.Path.{_≡_, refl, sym, ap, _∙_}
-use Prim.Native.Nat.{ℕ, suc, _+_, _-_, _*_, _≤_, _<_, _^_}
+-- A turn of each loop that counts, sums or adds a row of words.
+use mathlib.Core.Path.{_≡_, refl, ap, _∙_}
+use Prim.Native.Nat.{ℕ, suc, _+_, _*_, _≤_, _<_, _^_}
 use native.Mathlib.Omega.{arith}
 use mathlib.Core.List.{List}
 use mathlib.Core.Bool.{true, false}
 use lib.Dec.{eqb, ltb}
-use lib.ListN.{length, take, drop, getD, set, drop-of-length-le, length-drop, length-set, List·getD-eq-default}
-use lib.Seq.{getD-set-same, getD-set-other, take-all}
+use lib.ListN.{length, drop, getD, set, drop-of-length-le, length-set, List·getD-eq-default}
+use lib.Seq.{getD-set-same, getD-set-other}
 use borrow.Author.Tests.{eqb-true, eqb-false, ltb-true, ltb-false}
-use Rattle.reuse.specs.Lists.{mem, distinct, allIn, sum, outside}
+use Rattle.reuse.specs.Lists.{mem, sum, outside}
 use Rattle.reuse.proofs.Lists.{by-test}
 use Rattle.reuse.proofs.Slices.{next-word}
 use Rattle.summary.specs.Rows.{Added}
-
--- a part that goes to the end of a row
-pub part-rest : (s : List ℕ) (k : ℕ) → take (length s - k) (drop k s) ≡ drop k s
-part-rest s k = take-all (length s - k) (drop k s) (simp length-drop (omega arith))
-
--- the words passed stand once each
-pub record Apart (s : List ℕ) (i : ℕ) : Type 0 where
-  pub within : i ≤ length s
-  pub same : distinct (drop i s) ≡ distinct s
-
-module _ (s : List ℕ) where
-  -- before the first word
-  pub apart-start : Apart s 0
-  apart-start = record { within = omega arith; same = refl }
-
-  module _ (i : ℕ) (h : Apart s i) where
-    -- a word that does not come again
-    pub apart-turn : i < length s → mem (getD s i 0) (drop (i + 1) s) ≡ false → Apart s (i + 1)
-    unfolding distinct
-    apart-turn l m = record { within = omega arith; same = sym (sym (h .same) ∙ rw (next-word s i l) (simp m)) }
-
-    -- a word that comes again
-    pub apart-not : i < length s → mem (getD s i 0) (drop (i + 1) s) ≡ true → false ≡ distinct s
-    unfolding distinct
-    apart-not l m = sym (sym (h .same) ∙ rw (next-word s i l) (simp m))
-
-    -- no word is left
-    pub apart-end : length s ≤ i → true ≡ distinct s
-    unfolding distinct
-    apart-end l = sym (sym (h .same) ∙ rw (drop-of-length-le s {i = i} l))
-
--- the words passed stand in t
-pub record Among (s t : List ℕ) (i : ℕ) : Type 0 where
-  pub within : i ≤ length s
-  pub same : allIn (drop i s) t ≡ allIn s t
-
-module _ (s t : List ℕ) where
-  -- before the first word
-  pub among-start : Among s t 0
-  among-start = record { within = omega arith; same = refl }
-
-  module _ (i : ℕ) (h : Among s t i) where
-    -- a word of t
-    pub among-turn : i < length s → mem (getD s i 0) t ≡ true → Among s t (i + 1)
-    unfolding allIn
-    among-turn l m = record { within = omega arith; same = sym (sym (h .same) ∙ rw (next-word s i l) (simp m)) }
-
-    -- a word that is not of t
-    pub among-not : i < length s → mem (getD s i 0) t ≡ false → false ≡ allIn s t
-    unfolding allIn
-    among-not l m = sym (sym (h .same) ∙ rw (next-word s i l) (simp m))
-
-    -- no word is left
-    pub among-end : length s ≤ i → true ≡ allIn s t
-    unfolding allIn
-    among-end l = sym (sym (h .same) ∙ rw (drop-of-length-le s {i = i} l))
 
 -- t is the sum of the words passed
 pub record Summed (s : List ℕ) (t i : ℕ) : Type 0 where

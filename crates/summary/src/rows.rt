@@ -1,40 +1,12 @@
-// Rows of words: the tests and sums of a summary's fields, and words put into a row.
+// Rows of words: the sums of a summary's fields, and words put into a row.
+use reuse::tables;
 ghost use mathlib.Core.Path.{_≡_};
 ghost use Prim.Native.Nat.{ℕ, _+_, _≤_, _<_, _^_};
 ghost use lib.ListN.{length, getD};
-ghost use Rattle.reuse.specs.Lists.{distinct, allIn, sum, outside};
+ghost use Rattle.reuse.specs.Lists.{sum, outside};
 ghost use Rattle.reuse.specs.Summary.{hitsOf};
 ghost use Rattle.reuse.specs.Rows.{putAt};
 ghost use Rattle.summary.specs.Rows.{beside, Added, Given};
-
-// No word stands twice.
-pub fn all_distinct(s: &[u32]) -> bool
-    ensures { λ r. ⌜ r ≡ distinct (now (s .entry)) ⌝ }
-{
-    let mut i: usize = 0;
-    while i < s.len() {
-        let next = i + 1;
-        if reuse::contains(&s[next..], s[i]) {
-            return false;
-        }
-        i = next;
-    }
-    true
-}
-
-// Each word of the first row stands in the second.
-pub fn all_in(s: &[u32], t: &[u32]) -> bool
-    ensures { λ r. ⌜ r ≡ allIn (now (s .entry)) (now (t .entry)) ⌝ }
-{
-    let mut i: usize = 0;
-    while i < s.len() {
-        if !reuse::contains(t, s[i]) {
-            return false;
-        }
-        i = i + 1;
-    }
-    true
-}
 
 // The sum of at most 256 words.
 pub fn total(s: &[u32]) -> u64
@@ -70,10 +42,11 @@ pub fn hits(words: &[u32], size: u32) -> u32
 pub fn count_outside(known: &[u32], s: &[u32]) -> usize
     ensures { λ r. ⌜ r ≡ length (outside (now (known .entry)) (now (s .entry))) ⌝ }
 {
+    let table = tables::hints(known);
     let mut n: usize = 0;
     let mut i: usize = 0;
     while i < s.len() {
-        if !reuse::contains(known, s[i]) {
+        if !tables::known(known, &table, s[i]) {
             n = n + 1;
         }
         i = i + 1;
@@ -95,11 +68,12 @@ pub fn put_outside(out: &mut [u32], at: usize, known: &[u32], s: &[u32]) -> usiz
     requires { ⌜ at + length (outside (now known) (now s)) ≤ length (now out) ⌝ }
     ensures { λ r. ⌜ (r ≡ at + length (outside (now (known .entry)) (now (s .entry)))) × (now (out .exit) ≡ putAt (now (out .entry)) at (outside (now (known .entry)) (now (s .entry)))) ⌝ }
 {
+    let table = tables::hints(known);
     let mut n = at;
     let mut i: usize = 0;
     while i < s.len() {
         let x = s[i];
-        if !reuse::contains(known, x) {
+        if !tables::known(known, &table, x) {
             out[n] = x;
             n = n + 1;
         }

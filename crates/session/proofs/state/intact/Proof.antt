@@ -1,6 +1,8 @@
 -- `session::state::intact` meets its contract. Each test that fails breaks a fact, and the last decides.
-use mathlib.Core.Path.{refl, sym, ap, _∙_}
+use mathlib.Core.Path.{_≡_, refl, sym, ap, _∙_}
 use native.Mathlib.Omega.{arith}
+use lib.ListN.{length}
+use lib.Seq.{length-take-le}
 use borrow.Author.Tests.{not-true, not-false}
 use Prim.Native.Nat.{ℕ, _+_}
 use Rattle.session.specs.declared.Session.{Session}
@@ -42,13 +44,13 @@ abbrev from-total : tie.After-total → tie.Start
 from-total c = from-hist (c .before .before .before)
 
 -- from that of F
-abbrev from-apart : tie.After-apart → tie.Start
-from-apart c = from-total (c .before .before .before)
+abbrev from-apart : tie.After-all-distinct → tie.Start
+from-apart c = from-total (c .before .before .before .before)
 
 -- all tests but the last are passed
 passed : (c : tie.Else7) → Passed (tested (from-apart (c .before))) (root (tested (from-apart (c .before))))
 passed c =
-    let e₆ = c .before .before .before in
+    let e₆ = c .before .before .before .before in
     let e₅ = e₆ .before .before .before in
     let e₄ = e₅ .before .before .before in
     let e₃ = e₄ .before .before .before in
@@ -61,7 +63,7 @@ passed c =
       first-rest = sym (e₄ .before .zeros .ensures) ∙ not-false _ (e₄ .if4 .left);
       hist-rest = sym (e₅ .before .zeros2 .ensures) ∙ not-false _ (e₅ .if5 .left);
       total = ap (λ (n : ℕ). n + root (tested (from-apart (c .before)))) (sym (e₆ .before .total .ensures .0)) ∙ e₆ .if6 .left;
-      first-apart = sym (c .before .apart .ensures) ∙ not-false _ (c .if7 .left);
+      first-apart = sym (c .before .all-distinct .ensures) ∙ not-false _ (c .if7 .left);
     }
 
 returns : tie.Need-returns
@@ -116,29 +118,40 @@ returns-6 c =
     let z = from-total (c .before) in
     sym (unsound (tested z) (wide z) (λ f. c .if6 .taken (ap (λ (n : ℕ). n + root (tested z)) (c .before .total .ensures .0) ∙ sound-total (tested z) (wide z) f)))
 
-apart-requires : tie.Need-apart-requires
-apart-requires c κs = search needs
+slice-aggregate-all-distinct : tie.Need-slice-aggregate-all-distinct
+slice-aggregate-all-distinct c = sym (length-take-le _ _ (omega (arith, wide (from-total (c .before .before .before)) .first-wide)))
+
+all-distinct-requires : tie.Need-all-distinct-requires
+all-distinct-requires c κs = search needs
 
 returns-7 : tie.Need-returns-7
 returns-7 c =
     let z = from-apart (c .before) in
-    sym (unsound (tested z) (wide z) (λ f. clash (sound-apart (tested z) (wide z) f) (sym (c .before .apart .ensures) ∙ not-true _ (c .if7 .taken))))
+    sym (unsound (tested z) (wide z) (λ f. clash (sound-apart (tested z) (wide z) f) (sym (c .before .all-distinct .ensures) ∙ not-true _ (c .if7 .taken))))
 
 gather-requires : tie.Need-gather-requires
 gather-requires c κs = search needs
 
-slice-aggregate-within : tie.Need-slice-aggregate-within
-slice-aggregate-within c = search needs
+slice-aggregate-all-in : tie.Need-slice-aggregate-all-in
+slice-aggregate-all-in c = sym (length-take-le _ _ (omega (arith, wide (from-apart (c .before .before .before)) .first-wide)))
 
-within-requires : tie.Need-within-requires
-within-requires c κs = search needs
+array-share-prefix-marked : tie.Need-array-share-prefix-marked
+array-share-prefix-marked c = search needs
+
+slice-aggregate-all-in-2 : tie.Need-slice-aggregate-all-in-2
+slice-aggregate-all-in-2 c =
+    let n : length (c .before .before .gather .result) ≡ 512 = search needs in
+    sym (length-take-le _ _ (omega (arith, passed (c .before .before .before) .few)))
+
+all-in-requires : tie.Need-all-in-requires
+all-in-requires c κs = search needs
 
 returns-8 : tie.Need-returns-8
 unfolding marks
 returns-8 c =
     let g = c .before .before .before in
     let z = from-apart (g .before .before) in
-    c .within .ensures ∙ passed-sound (tested z) (wide z) _ (passed (g .before)) _ (g .gather .ensures)
+    c .all-in .ensures ∙ passed-sound (tested z) (wide z) _ (passed (g .before)) _ (g .gather .ensures)
 
 pub intact-spec : {M : Type 1} → statement M
 intact-spec =
@@ -158,9 +171,12 @@ intact-spec =
     total-requires
     add-if6
     returns-6
-    apart-requires
+    slice-aggregate-all-distinct
+    all-distinct-requires
     returns-7
     gather-requires
-    slice-aggregate-within
-    within-requires
+    slice-aggregate-all-in
+    array-share-prefix-marked
+    slice-aggregate-all-in-2
+    all-in-requires
     returns-8)

@@ -5,28 +5,32 @@ use Prim.Native.Nat.{_-_}
 use native.Mathlib.Omega.{arith}
 use lib.ListN.{length}
 use borrow.Author.Tests.{not-true, not-false}
+use Rattle.reuse.proofs.Lookups.{looked-up}
 use Rattle.summary.proofs.Turns.{Left, left-start, left-more, left-same, left-end}
 use borrow.Author.Needs.{needs}
 use Rattle.summary.proofs.rows.count_outside.Statement.{statement}
 use Rattle.summary.proofs.rows.count_outside.Tie as tie
 
 abbrev Inv-loop : tie.InvT-loop
-Inv-loop known s n₀ i₀ n i = Left known s n i
+Inv-loop known s table n₀ i₀ n i = Left known s n i
 
 abbrev μ-loop : tie.MeasureT-loop
-μ-loop known s n₀ i₀ n i = length s - i
+μ-loop known s table n₀ i₀ n i = length s - i
+
+hints-requires : tie.Need-hints-requires Inv-loop μ-loop
+hints-requires c κs = search needs
 
 loop-holds : tie.Need-loop-holds Inv-loop μ-loop
 loop-holds c = left-start _ _
 
-mul-contains : tie.Need-mul-contains Inv-loop μ-loop
-mul-contains c = search needs
+mul-known : tie.Need-mul-known Inv-loop μ-loop
+mul-known c = search needs
 
-shared-slice-read-contains : tie.Need-shared-slice-read-contains Inv-loop μ-loop
-shared-slice-read-contains c = search needs
+shared-slice-read-known : tie.Need-shared-slice-read-known Inv-loop μ-loop
+shared-slice-read-known c = search needs
 
-contains-requires : tie.Need-contains-requires Inv-loop μ-loop
-contains-requires c κs = search needs
+known-requires : tie.Need-known-requires Inv-loop μ-loop
+known-requires c κs = search needs
 
 add-n : tie.Need-add-n Inv-loop μ-loop
 add-n c = search needs
@@ -39,8 +43,8 @@ loop-less c = search needs
 
 loop-again : tie.Need-loop-again Inv-loop μ-loop
 loop-again c =
-    let h = c .before .before .before .before .loop .inv in
-    let e = sym (c .before .contains .ensures) in
+    let h = c .before .before .before .before .before .loop .inv in
+    let e = sym (c .before .known .ensures ∙ looked-up _ _ _ (c .before .before .before .before .before .before .hints .ensures)) in
     ⊎-elim (λ w. rw (w .1) (left-more _ _ _ _ h (omega arith) (e ∙ not-true _ (w .0 .taken))))
     (λ w. rw (w .1) (left-same _ _ _ _ h (omega arith) (e ∙ not-false _ (w .0 .left)))) (c .if1 .came)
 
@@ -53,10 +57,11 @@ count-outside-spec =
     (tie.spec
     Inv-loop
     μ-loop
+    hints-requires
     loop-holds
-    mul-contains
-    shared-slice-read-contains
-    contains-requires
+    mul-known
+    shared-slice-read-known
+    known-requires
     add-n
     add-i
     loop-less

@@ -1,0 +1,33 @@
+-- Tables of words: each word falls to one of 1,024 places, by which it is looked up.
+use Prim.Native.Nat.{ℕ, suc, _*_, _/_, _%_}
+use mathlib.Core.List.{List, [], _∷_}
+use mathlib.Core.Bool.{Bool, cond}
+use lib.Dec.{eqb}
+use lib.ListN.{take, drop, getD, set, replicate}
+use Rattle.reuse.specs.Limits.{maxExtents}
+use Rattle.reuse.specs.Lists.{mem}
+
+-- the places of a table
+abbrev pub tablePlaces : ℕ
+tablePlaces = 1_024
+
+-- the place of a word: ten binary digits of a product that spreads the multiples of a power of two
+unfoldable pub bucketOf : ℕ → ℕ
+bucketOf x = x * 2_654_435_761 / 4_194_304 % tablePlaces
+
+-- the table with these words noted at their places by their numbers, n and so on, a later word over an earlier one
+unfoldable pub hintsFrom : List ℕ → ℕ → List ℕ → List ℕ
+hintsFrom table n [] = table
+hintsFrom table n (x ∷ xs) = hintsFrom (set table (bucketOf x) n) (suc n) xs
+
+-- for each place the number of the last word that falls there, 1 for the first word, 0 where none does; words past the limit are not noted
+unfoldable pub hintsOf : List ℕ → List ℕ
+hintsOf words = hintsFrom (replicate tablePlaces 0) 1 (take maxExtents words)
+
+-- x stands among the words, by the table's number p: where that is 0, only the words past the limit are asked
+unfoldable pub standsBy : List ℕ → ℕ → ℕ → Bool
+standsBy words p x = cond (eqb p 0) (mem x (drop maxExtents words)) (mem x words)
+
+-- x stands among the words, by a table of them
+unfoldable pub lookedUp : List ℕ → List ℕ → ℕ → Bool
+lookedUp words table x = standsBy words (getD table (bucketOf x) 0) x
