@@ -112,7 +112,7 @@ fn change(random: &mut Random, words: &mut [u32], rule: usize) {
         4 => {
             words.swap(SUMS.start + one, SUMS.start + other);
             words.swap(SLOT.start + one, SLOT.start + other);
-            resum(words);
+            session::resum(words);
         }
         5 => {
             words[READS] = words[READS].wrapping_add(1);
@@ -121,7 +121,7 @@ fn change(random: &mut Random, words: &mut [u32], rule: usize) {
         6 => words[NEXT] = random.below(SLOTS + 2) as u32,
         7 => {
             words[SUMS.start + one] ^= 1;
-            resum(words);
+            session::resum(words);
         }
         8 => words[first] = words[second],
         9 => {
@@ -131,12 +131,6 @@ fn change(random: &mut Random, words: &mut [u32], rule: usize) {
         10 => words.swap(SUMS.start + SLOTS + one / 2, SUMS.start + SLOTS + other / 2),
         _ => rename(words, words[first], random.word()),
     }
-}
-
-/// Makes the sums true for their leaves.
-fn resum(words: &mut [u32]) {
-    let sums = session::sums_over(&words[SUMS][..SLOTS]);
-    words[SUMS].copy_from_slice(&sums);
 }
 
 /// Gives an extent another number in F and in its slot.
@@ -180,7 +174,7 @@ fn marked(slots: &[usize], warm: u32, next: u32) -> Vec<u32> {
     words[COUNTS][0] = warm;
     words[READS] = slots.len() as u32 + warm;
     words[NEXT] = next;
-    resum(&mut words);
+    session::resum(&mut words);
     words
 }
 

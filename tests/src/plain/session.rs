@@ -44,10 +44,16 @@ fn parent(place: usize) -> usize {
 pub fn sums_over(leaves: &[u32]) -> Vec<u32> {
     let mut sums = leaves.to_vec();
     sums.resize(SUMS.len(), 0);
-    for place in 0..SUMS.len() - 1 {
-        sums[parent(place)] += sums[place];
+    for left in (0..SUMS.len() - 1).step_by(2) {
+        sums[parent(left)] = sums[left] + sums[left + 1];
     }
     sums
+}
+
+/// Makes the sums true for their leaves.
+pub fn resum(words: &mut [u32]) {
+    let sums = sums_over(&words[SUMS][..SLOTS]);
+    words[SUMS].copy_from_slice(&sums);
 }
 
 /// The marked slots, in order.
@@ -109,21 +115,21 @@ pub fn sound(words: &[u32]) -> bool {
         && counts_sound(words)
 }
 
-/// Puts these extents, and no others, into these slots, with a mark in each.
-fn put(words: &mut [u32], slots: &[usize], extents: &[u32]) {
-    words[SLOT].fill(0);
-    let mut leaves = vec![0; SLOTS];
-    for (slot, extent) in slots.iter().zip(extents) {
-        words[SLOT][*slot] = *extent;
-        leaves[*slot] = 1;
-    }
-    words[SUMS].copy_from_slice(&sums_over(&leaves));
+/// Changes a slot and its leaf.
+fn put(words: &mut [u32], slot: usize, extent: u32, leaf: u32) {
+    words[SLOT][slot] = extent;
+    words[SUMS][slot] = leaf;
 }
 
 /// The marks move, in order, to the first slots, and next becomes v.
 fn gather(words: &mut [u32]) {
     let extents = marked(words);
-    put(words, &(0..extents.len()).collect::<Vec<usize>>(), &extents);
+    for slot in 0..SLOTS {
+        match extents.get(slot) {
+            Some(extent) => put(words, slot, *extent, 1),
+            None => put(words, slot, 0, 0),
+        }
+    }
     words[NEXT] = extents.len() as u32;
 }
 
@@ -144,23 +150,24 @@ pub fn way_up(sums: &[u32], slot: usize) -> Reading {
 pub fn accept(words: &mut [u32], extent: u32) -> Reading {
     if words[NEXT] as usize == SLOTS {
         gather(words);
+        resum(words);
     }
-    let (mut slots, mut extents) = (marks(words), marked(words));
-    let reading = match extents.iter().position(|other| *other == extent) {
-        Some(place) => {
-            let reading = way_up(&words[SUMS], slots.remove(place));
-            extents.remove(place);
+    let mark = marks(words).into_iter().find(|slot| words[SLOT][*slot] == extent);
+    let reading = match mark {
+        Some(slot) => {
+            let reading = way_up(&words[SUMS], slot);
+            put(words, slot, 0, 0);
             words[COUNTS][reading.distance - 1] += 1;
             reading
         }
         None => {
-            words[FIRSTS][extents.len()] = extent;
+            let v = marks(words).len();
+            words[FIRSTS][v] = extent;
             Reading { distance: 0, sums_read: 0 }
         }
     };
-    slots.push(words[NEXT] as usize);
-    extents.push(extent);
-    put(words, &slots, &extents);
+    put(words, words[NEXT] as usize, extent, 1);
+    resum(words);
     words[NEXT] += 1;
     words[READS] += 1;
     reading
