@@ -1,0 +1,133 @@
+//! The calls of include/jemqolu.h, on slices.
+
+use crate::Answer;
+
+mod raw {
+    extern "C" {
+        pub fn jemqolu_summarize(reads: *const u32, reads_len: usize, out: *mut u32, out_len: usize) -> i64;
+        pub fn jemqolu_join(
+            a: *const u32,
+            a_len: usize,
+            b: *const u32,
+            b_len: usize,
+            out: *mut u32,
+            out_len: usize,
+        ) -> i64;
+        pub fn jemqolu_distances(
+            prefix: *const u32,
+            prefix_len: usize,
+            reads: *const u32,
+            reads_len: usize,
+            out: *mut u32,
+            out_len: usize,
+        ) -> i64;
+        pub fn jemqolu_misses(words: *const u32, words_len: usize, size: u32) -> i64;
+        pub fn jemqolu_share(words: *const u32, words_len: usize, size: u32, share: *mut f64) -> i64;
+        pub fn jemqolu_plan(
+            text: *const u8,
+            text_len: usize,
+            log: *const u32,
+            log_len: usize,
+            work: *mut u32,
+            work_len: usize,
+            out: *mut u32,
+            out_len: usize,
+        ) -> i64;
+        pub fn jemqolu_list(text: *const u8, text_len: usize, out: *mut u8, out_len: usize) -> i64;
+        pub fn jemqolu_session_new(session: *mut u32, session_len: usize) -> i64;
+        pub fn jemqolu_session_read(session: *mut u32, session_len: usize, extent: u32, sums_read: *mut u32) -> i64;
+        pub fn jemqolu_session_summary(session: *const u32, session_len: usize, out: *mut u32, out_len: usize) -> i64;
+        pub fn jemqolu_watch_new(size: u32, watch: *mut u32, watch_len: usize) -> i64;
+        pub fn jemqolu_watch_read(watch: *mut u32, watch_len: usize, distance: u32) -> i64;
+        pub fn jemqolu_watch_misses(watch: *const u32, watch_len: usize) -> i64;
+        pub fn jemqolu_watch_share(watch: *const u32, watch_len: usize, share: *mut f64) -> i64;
+    }
+}
+
+/// An answer of 0 or more, or the number of a refusal.
+fn answer(raw: i64) -> Answer<usize> {
+    usize::try_from(raw).map_err(|_| -raw)
+}
+
+/// The summary of `reads`; the words written.
+pub fn summarize(reads: &[u32], out: &mut [u32]) -> Answer<usize> {
+    answer(unsafe { raw::jemqolu_summarize(reads.as_ptr(), reads.len(), out.as_mut_ptr(), out.len()) })
+}
+
+/// The summary of `a`, then `b`; the words written.
+pub fn join(a: &[u32], b: &[u32], out: &mut [u32]) -> Answer<usize> {
+    answer(unsafe { raw::jemqolu_join(a.as_ptr(), a.len(), b.as_ptr(), b.len(), out.as_mut_ptr(), out.len()) })
+}
+
+/// The reuse distances of `reads` after a prefix; the words written.
+pub fn distances(prefix: &[u32], reads: &[u32], out: &mut [u32]) -> Answer<usize> {
+    answer(unsafe {
+        raw::jemqolu_distances(prefix.as_ptr(), prefix.len(), reads.as_ptr(), reads.len(), out.as_mut_ptr(), out.len())
+    })
+}
+
+/// The misses of a cache of `size` extents.
+pub fn misses(words: &[u32], size: u32) -> Answer<usize> {
+    answer(unsafe { raw::jemqolu_misses(words.as_ptr(), words.len(), size) })
+}
+
+/// The hit share of a cache of `size` extents; 1, or 0 where there are no reads.
+pub fn share(words: &[u32], size: u32, share: &mut f64) -> Answer<usize> {
+    answer(unsafe { raw::jemqolu_share(words.as_ptr(), words.len(), size, share) })
+}
+
+/// The summary of `log` by a joining plan; the words written.
+pub fn plan(text: &[u8], log: &[u32], work: &mut [u32], out: &mut [u32]) -> Answer<usize> {
+    answer(unsafe {
+        raw::jemqolu_plan(
+            text.as_ptr(),
+            text.len(),
+            log.as_ptr(),
+            log.len(),
+            work.as_mut_ptr(),
+            work.len(),
+            out.as_mut_ptr(),
+            out.len(),
+        )
+    })
+}
+
+/// The listing of a log text; the bytes written.
+pub fn list(text: &[u8], out: &mut [u8]) -> Answer<usize> {
+    answer(unsafe { raw::jemqolu_list(text.as_ptr(), text.len(), out.as_mut_ptr(), out.len()) })
+}
+
+/// A new session; its words.
+pub fn session_new(session: &mut [u32]) -> Answer<usize> {
+    answer(unsafe { raw::jemqolu_session_new(session.as_mut_ptr(), session.len()) })
+}
+
+/// One more read of a session; its reuse distance, 0 for a cold read.
+pub fn session_read(session: &mut [u32], extent: u32, sums_read: &mut u32) -> Answer<usize> {
+    answer(unsafe { raw::jemqolu_session_read(session.as_mut_ptr(), session.len(), extent, sums_read) })
+}
+
+/// The summary of a session's reads; the words written.
+pub fn session_summary(session: &[u32], out: &mut [u32]) -> Answer<usize> {
+    answer(unsafe { raw::jemqolu_session_summary(session.as_ptr(), session.len(), out.as_mut_ptr(), out.len()) })
+}
+
+/// A new watch on a cache of `size` extents; its words.
+pub fn watch_new(size: u32, watch: &mut [u32]) -> Answer<usize> {
+    answer(unsafe { raw::jemqolu_watch_new(size, watch.as_mut_ptr(), watch.len()) })
+}
+
+/// One more read's distance, 0 for a cold read; 0.
+pub fn watch_read(watch: &mut [u32], distance: u32) -> Answer<usize> {
+    answer(unsafe { raw::jemqolu_watch_read(watch.as_mut_ptr(), watch.len(), distance) })
+}
+
+/// The misses so far.
+pub fn watch_misses(watch: &[u32]) -> Answer<usize> {
+    answer(unsafe { raw::jemqolu_watch_misses(watch.as_ptr(), watch.len()) })
+}
+
+/// The hit share so far; 1, or 0 where there are no reads.
+pub fn watch_share(watch: &[u32], share: &mut f64) -> Answer<usize> {
+    answer(unsafe { raw::jemqolu_watch_share(watch.as_ptr(), watch.len(), share) })
+}

@@ -1,0 +1,14 @@
+//! The library as C calls it, beside a plain implementation of the same definitions, and what the tests compare them on.
+
+pub mod calls;
+pub mod ffi;
+pub mod guard;
+pub mod made;
+pub mod plain;
+pub mod random;
+pub mod refusal;
+pub mod room;
+pub mod tally;
+
+/// What a call answers, or the number of its refusal.
+pub type Answer<T> = Result<T, i64>;

@@ -1,0 +1,162 @@
+//! Made inputs: traces, summaries and sessions that no trace has, and plans.
+
+use crate::plain::plans::{Plan, MAX_PARTS};
+use crate::plain::session::{self, sums_over};
+use crate::plain::MAX_EXTENTS;
+use crate::random::Random;
+use std::collections::HashSet;
+
+/// All traces over these extents, up to a length.
+pub fn all_traces(longest: usize, extents: &[u32]) -> Vec<Vec<u32>> {
+    let mut all = vec![Vec::new()];
+    let mut shorter = 0;
+    for _ in 0..longest {
+        let level = shorter..all.len();
+        shorter = all.len();
+        for place in level {
+            for extent in extents {
+                let longer = [all[place].as_slice(), &[*extent]].concat();
+                all.push(longer);
+            }
+        }
+    }
+    all
+}
+
+/// The number of the extent at a place of a list, by one of five rules.
+fn numbered(random: &mut Random, rule: usize, place: usize) -> u32 {
+    let half = place as u32 / 2;
+    match rule {
+        0 => place as u32,
+        1 => random.word(),
+        2 => random.below(1 << 20) as u32 * 4096,
+        3 => random.below(1 << 22) as u32 * 1024,
+        _ => {
+            if place % 2 == 0 {
+                half
+            } else {
+                u32::MAX - half
+            }
+        }
+    }
+}
+
+/// So many different extents: small, spread, multiples of 4,096 or of 1,024, or from both ends of the numbers.
+pub fn extents(random: &mut Random, count: usize) -> Vec<u32> {
+    let rule = random.below(5);
+    let mut seen = HashSet::new();
+    let mut list = Vec::new();
+    while list.len() < count {
+        let extent = numbered(random, rule, list.len());
+        if seen.insert(extent) {
+            list.push(extent);
+        }
+    }
+    random.shuffled(&list)
+}
+
+/// A number below `bound`, the small ones more often.
+fn skewed(random: &mut Random, bound: usize) -> usize {
+    let bound = 1 + random.below(bound);
+    let bound = 1 + random.below(bound);
+    random.below(bound)
+}
+
+/// A trace of so many reads over these extents: uniform, skewed, a scan, with repeats, or in phases.
+pub fn trace_over(random: &mut Random, extents: &[u32], reads: usize) -> Vec<u32> {
+    let (shape, v) = (random.below(5), extents.len());
+    let mut last = 0;
+    let mut place = |random: &mut Random, read: usize| {
+        last = match shape {
+            0 => random.below(v),
+            1 => skewed(random, v),
+            2 => read % v,
+            3 if !random.one_in(4) => last,
+            3 => random.below(v),
+            _ => (read / 40 * 7 + random.below(6)) % v,
+        };
+        last
+    };
+    (0..reads).map(|read| extents[place(random, read)]).collect()
+}
+
+/// A trace of up to so many reads over up to so many extents.
+pub fn trace(random: &mut Random, most_reads: usize, most_extents: usize) -> Vec<u32> {
+    let v = 1 + random.below(most_extents);
+    let extents = extents(random, v);
+    let reads = random.below(most_reads + 1);
+    trace_over(random, &extents, reads)
+}
+
+/// Numbers whose sum is `total`.
+fn split(random: &mut Random, total: usize, count: usize) -> Vec<u32> {
+    let mut left = total;
+    let mut numbers: Vec<u32> = Vec::new();
+    for place in 0..count {
+        let number = if place + 1 == count { left } else { random.below(left + 1) };
+        left -= number;
+        numbers.push(number as u32);
+    }
+    random.shuffled(&numbers)
+}
+
+/// A well-formed summary over these extents with so many reads that are not cold, whether or not a trace has it.
+pub fn summary_over(random: &mut Random, extents: &[u32], warm: usize) -> Vec<u32> {
+    let v = extents.len();
+    let warm = if v == 0 { 0 } else { warm };
+    let counts = split(random, warm, v);
+    let (firsts, recents) = (random.shuffled(extents), random.shuffled(extents));
+    [vec![(v + warm) as u32, v as u32], firsts, recents, counts].concat()
+}
+
+/// A well-formed summary of up to so many extents, whether or not a trace has it.
+pub fn summary(random: &mut Random, most_extents: usize) -> Vec<u32> {
+    let v = random.below(most_extents + 1);
+    let extents = extents(random, v);
+    let warm = random.below(5000);
+    summary_over(random, &extents, warm)
+}
+
+/// A sound session with these extents and so many reads that are not cold, whether or not a trace has it.
+pub fn session_over(random: &mut Random, extents: &[u32], warm: usize, next: usize) -> Vec<u32> {
+    let v = extents.len();
+    let warm = if v == 0 { 0 } else { warm };
+    let below: Vec<usize> = (0..next).collect();
+    let mut words = session::new();
+    let mut leaves = vec![0; session::SLOTS];
+    for (slot, extent) in random.shuffled(&below).iter().zip(extents) {
+        words[session::SLOT][*slot] = *extent;
+        leaves[*slot] = 1;
+    }
+    words[session::READS] = (v + warm) as u32;
+    words[session::FIRSTS][..v].copy_from_slice(&random.shuffled(extents));
+    words[session::COUNTS][..v].copy_from_slice(&split(random, warm, v));
+    words[session::SUMS].copy_from_slice(&sums_over(&leaves));
+    words[session::NEXT] = next as u32;
+    words
+}
+
+/// A sound session, whether or not a trace has it.
+pub fn session(random: &mut Random) -> Vec<u32> {
+    let most = random.of(&[4, 30, MAX_EXTENTS]);
+    let v = random.below(most + 1);
+    let extents = extents(random, v);
+    let next = if random.one_in(3) { session::SLOTS } else { v + random.below(session::SLOTS - v) };
+    let warm = random.below(5000);
+    session_over(random, &extents, warm, next)
+}
+
+/// A plan of this depth, with small segs.
+pub fn plan(random: &mut Random, depth: usize) -> Plan {
+    if depth == 0 {
+        return Plan::Seg(random.below(6) as u64);
+    }
+    let parts = if random.one_in(8) { MAX_PARTS } else { 2 + random.below(3) };
+    let deepest = random.below(parts);
+    let mut inner = Vec::new();
+    for part in 0..parts {
+        let shallow = random.below(depth.min(3));
+        inner.push(plan(random, if part == deepest { depth - 1 } else { shallow }));
+    }
+    Plan::Join(inner)
+}

@@ -1,0 +1,20 @@
+//! The definitions as plain code: slow, short, and written from the requirements alone.
+
+pub mod cache;
+pub mod logs;
+pub mod plans;
+pub mod session;
+pub mod summary;
+pub mod texts;
+pub mod trace;
+pub mod watch;
+
+/// The most reads of a log.
+pub const MAX_READS: u64 = 1_048_576;
+/// The most different extents of a log.
+pub const MAX_EXTENTS: usize = 256;
+
+/// Hits divided by all reads, or none where there are no reads.
+pub fn hit_share(hits: u64, reads: u64) -> Option<f64> {
+    (reads > 0).then(|| hits as f64 / reads as f64)
+}

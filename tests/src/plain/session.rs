@@ -1,0 +1,203 @@
+//! Sessions as words, in slots and sums.
+
+use super::summary;
+use super::{MAX_EXTENTS, MAX_READS};
+use crate::{refusal, Answer};
+use std::ops::Range;
+
+/// The slots.
+pub const SLOTS: usize = 512;
+/// The words of a session.
+pub const WORDS: usize = 2049;
+
+/// Where the reads accepted, L, stand.
+pub const READS: usize = 0;
+/// Where F, the extents by first read, stands.
+pub const FIRSTS: Range<usize> = 1..257;
+/// Where H, the histogram, stands.
+pub const COUNTS: Range<usize> = 257..513;
+/// Where the slots stand.
+pub const SLOT: Range<usize> = 513..1025;
+/// Where the sums stand, the leaves first, the root last.
+pub const SUMS: Range<usize> = 1025..2048;
+/// Where the next slot stands.
+pub const NEXT: usize = 2048;
+
+/// What a read answers: its reuse distance, 0 for a cold read, and the number of sums that it looked at.
+#[derive(Clone, Copy, PartialEq, Eq, Debug)]
+pub struct Reading {
+    pub distance: usize,
+    pub sums_read: u32,
+}
+
+/// A new session.
+pub fn new() -> Vec<u32> {
+    vec![0; WORDS]
+}
+
+/// The place of a sum's parent.
+fn parent(place: usize) -> usize {
+    SLOTS + place / 2
+}
+
+/// The sums over these leaves.
+pub fn sums_over(leaves: &[u32]) -> Vec<u32> {
+    let mut sums = leaves.to_vec();
+    sums.resize(SUMS.len(), 0);
+    for left in (0..SUMS.len() - 1).step_by(2) {
+        sums[parent(left)] = sums[left] + sums[left + 1];
+    }
+    sums
+}
+
+/// Makes the sums true for their leaves.
+pub fn resum(words: &mut [u32]) {
+    let sums = sums_over(&words[SUMS][..SLOTS]);
+    words[SUMS].copy_from_slice(&sums);
+}
+
+/// The marked slots, in order.
+pub fn marks(words: &[u32]) -> Vec<usize> {
+    let leaves = &words[SUMS][..SLOTS];
+    (0..SLOTS).filter(|slot| leaves[*slot] == 1).collect()
+}
+
+/// The extents in the marked slots, in the slots' order.
+fn marked(words: &[u32]) -> Vec<u32> {
+    marks(words).into_iter().map(|slot| words[SLOT][slot]).collect()
+}
+
+/// At most 256 marks, all below next, and next at most 512.
+fn marks_sound(words: &[u32]) -> bool {
+    let (marks, next) = (marks(words), words[NEXT] as usize);
+    marks.len() <= MAX_EXTENTS && next <= SLOTS && marks.iter().all(|slot| *slot < next)
+}
+
+/// Different extents in the marked slots, and 0 in the others.
+fn slots_sound(words: &[u32]) -> bool {
+    let (marks, mut extents) = (marks(words), marked(words));
+    extents.sort_unstable();
+    let different = extents.windows(2).all(|pair| pair[0] != pair[1]);
+    different && (0..SLOTS).all(|slot| words[SLOT][slot] == 0 || marks.binary_search(&slot).is_ok())
+}
+
+/// F has the extents of the marked slots once each, and 0 after them.
+fn firsts_sound(words: &[u32]) -> bool {
+    let mut extents = marked(words);
+    let (front, after) = words[FIRSTS].split_at(extents.len().min(MAX_EXTENTS));
+    let mut firsts = front.to_vec();
+    firsts.sort_unstable();
+    extents.sort_unstable();
+    firsts == extents && after.iter().all(|word| *word == 0)
+}
+
+/// Each leaf is 1 or 0, and each other sum is the number of marks beneath it.
+fn sums_sound(words: &[u32]) -> bool {
+    let leaves = &words[SUMS][..SLOTS];
+    leaves.iter().all(|leaf| *leaf <= 1) && words[SUMS] == sums_over(leaves)
+}
+
+/// H is 0 above v; L is v plus the sum of H, and at most 1,048,576.
+fn counts_sound(words: &[u32]) -> bool {
+    let (v, reads) = (marks(words).len() as u64, u64::from(words[READS]));
+    let total: u64 = words[COUNTS].iter().map(|count| u64::from(*count)).sum();
+    let above_v = words[COUNTS].iter().skip(v as usize).all(|count| *count == 0);
+    above_v && reads == v + total && reads <= MAX_READS
+}
+
+/// Whether the words are a sound session, or start with one.
+pub fn sound(words: &[u32]) -> bool {
+    words.len() >= WORDS
+        && marks_sound(words)
+        && slots_sound(words)
+        && firsts_sound(words)
+        && sums_sound(words)
+        && counts_sound(words)
+}
+
+/// Changes a slot and its leaf.
+fn put(words: &mut [u32], slot: usize, extent: u32, leaf: u32) {
+    words[SLOT][slot] = extent;
+    words[SUMS][slot] = leaf;
+}
+
+/// The marks move, in order, to the first slots, and next becomes v.
+fn gather(words: &mut [u32]) {
+    let extents = marked(words);
+    for slot in 0..SLOTS {
+        match extents.get(slot) {
+            Some(extent) => put(words, slot, *extent, 1),
+            None => put(words, slot, 0, 0),
+        }
+    }
+    words[NEXT] = extents.len() as u32;
+}
+
+/// The way up from a marked slot: the sums of right-hand neighbours wherever it leaves a left child.
+pub fn way_up(sums: &[u32], slot: usize) -> Reading {
+    let (mut place, mut total, mut sums_read) = (slot, 0, 0);
+    while place != SUMS.len() - 1 {
+        if place % 2 == 0 {
+            total += sums[place + 1] as usize;
+            sums_read += 1;
+        }
+        place = parent(place);
+    }
+    Reading { distance: 1 + total, sums_read }
+}
+
+/// A read that a sound session accepts.
+pub fn accept(words: &mut [u32], extent: u32) -> Reading {
+    if words[NEXT] as usize == SLOTS {
+        gather(words);
+        resum(words);
+    }
+    let mark = marks(words).into_iter().find(|slot| words[SLOT][*slot] == extent);
+    let reading = match mark {
+        Some(slot) => {
+            let reading = way_up(&words[SUMS], slot);
+            put(words, slot, 0, 0);
+            words[COUNTS][reading.distance - 1] += 1;
+            reading
+        }
+        None => {
+            let v = marks(words).len();
+            words[FIRSTS][v] = extent;
+            Reading { distance: 0, sums_read: 0 }
+        }
+    };
+    put(words, words[NEXT] as usize, extent, 1);
+    resum(words);
+    words[NEXT] += 1;
+    words[READS] += 1;
+    reading
+}
+
+/// The call for one more read; a refusal leaves the session as it was.
+pub fn read(words: &mut [u32], extent: u32) -> Answer<Reading> {
+    if !sound(words) {
+        return Err(refusal::STATE);
+    }
+    if u64::from(words[READS]) + 1 > MAX_READS {
+        return Err(refusal::READS);
+    }
+    let extents = marked(words);
+    if !extents.contains(&extent) && extents.len() + 1 > MAX_EXTENTS {
+        return Err(refusal::EXTENTS);
+    }
+    Ok(accept(words, extent))
+}
+
+/// The call for the summary of the reads accepted.
+pub fn summary(words: &[u32]) -> Answer<Vec<u32>> {
+    if !sound(words) {
+        return Err(refusal::STATE);
+    }
+    let mut recents = marked(words);
+    recents.reverse();
+    let v = recents.len();
+    let parts = [&[words[READS], v as u32], &words[FIRSTS][..v], &recents, &words[COUNTS][..v]];
+    let words = parts.concat();
+    assert!(summary::well_formed(&words).is_some(), "a sound session has a well-formed summary");
+    Ok(words)
+}

@@ -1,0 +1,162 @@
+//! Whole runs: a trace cut into parts, each part summarized, the summaries joined in any grouping, and the distances of
+//! each part after its prefix. Nothing of the cutting or the grouping shows.
+
+use jemqolu_tests::plain::{cache, session, summary, trace, MAX_EXTENTS};
+use jemqolu_tests::random::Random;
+use jemqolu_tests::tally::Tally;
+use jemqolu_tests::{calls, made, refusal};
+
+/// A part of a trace: the reads accepted, and the summary of them.
+struct Part {
+    reads: Vec<u32>,
+    words: Vec<u32>,
+}
+
+/// What a new session makes of a list of read calls: the part, and the distances answered.
+fn read_calls(list: &[u32]) -> (Part, Vec<u32>) {
+    let mut words = calls::session_new(session::WORDS).expect("a new session");
+    let (mut reads, mut distances) = (Vec::new(), Vec::new());
+    for extent in list {
+        match calls::session_read(&mut words, *extent) {
+            Ok(reading) => {
+                reads.push(*extent);
+                distances.push(reading.distance as u32);
+            }
+            Err(number) => assert_eq!(number, refusal::EXTENTS, "a read within the limit of reads"),
+        }
+    }
+    let words = calls::session_summary(&words, 770).expect("a session that nobody else wrote to");
+    (Part { reads, words }, distances)
+}
+
+/// The part of these reads, by a session or by the call for whole traces.
+fn part(random: &mut Random, reads: &[u32]) -> Part {
+    if random.one_in(2) {
+        return read_calls(reads).0;
+    }
+    let words = calls::summarize(reads, 770).expect("a trace within the limits");
+    Part { reads: reads.to_vec(), words }
+}
+
+/// The summary of a random grouping of one or more parts.
+fn grouped(random: &mut Random, parts: &[Part]) -> Vec<u32> {
+    if parts.len() == 1 {
+        return parts[0].words.clone();
+    }
+    let (first, rest) = parts.split_at(1 + random.below(parts.len() - 1));
+    let (a, b) = (grouped(random, first), grouped(random, rest));
+    calls::join(&a, &b, 770).expect("a join within the limits")
+}
+
+/// The reads cut at random places, empty parts among them.
+fn cut(random: &mut Random, reads: &[u32], count: usize) -> Vec<Part> {
+    let mut cuts: Vec<usize> = (1..count).map(|_| random.below(reads.len() + 1)).collect();
+    cuts.extend([0, reads.len()]);
+    cuts.sort_unstable();
+    cuts.windows(2).map(|ends| part(random, &reads[ends[0]..ends[1]])).collect()
+}
+
+/// The distances of each part after a grouping of all parts before it, end to end.
+fn distances(random: &mut Random, parts: &[Part]) -> Vec<u32> {
+    let mut all = Vec::new();
+    for (place, part) in parts.iter().enumerate() {
+        let prefix = if place == 0 { vec![0, 0] } else { grouped(random, &parts[..place]) };
+        all.extend(calls::distances(&prefix, &part.reads, part.reads.len()).expect("a part within the limits"));
+    }
+    all
+}
+
+/// Compares the parts, grouped, with the uncut reading of all of them.
+fn compare(tally: &mut Tally, random: &mut Random, parts: &[Part]) {
+    let whole: Vec<u32> = parts.iter().flat_map(|part| part.reads.iter().copied()).collect();
+    let (uncut, answers) = read_calls(&whole);
+    tally.same(&uncut.reads, &whole, &whole);
+    tally.same(&uncut.words, &summary::of(&whole), &whole);
+    tally.same(&answers, &trace::distances(&whole), &whole);
+    for _ in 0..3 {
+        tally.same(&grouped(random, parts), &uncut.words, &whole);
+    }
+    tally.same(&distances(random, parts), &answers, &whole);
+}
+
+#[test]
+fn all_cuttings_of_short_traces() {
+    let mut tally = Tally::new("all cuttings of short traces into three parts");
+    let mut random = Random::new(71);
+    for reads in made::all_traces(5, &[0, 1024, u32::MAX]) {
+        for one in 0..=reads.len() {
+            for other in one..=reads.len() {
+                let ends = [0, one, other, reads.len()];
+                let parts: Vec<Part> =
+                    ends.windows(2).map(|ends| part(&mut random, &reads[ends[0]..ends[1]])).collect();
+                compare(&mut tally, &mut random, &parts);
+            }
+        }
+    }
+    tally.at_least(40_000);
+}
+
+#[test]
+fn cuttings_of_random_traces() {
+    let mut tally = Tally::new("cuttings of random traces");
+    let mut random = Random::new(72);
+    for round in 0..240 {
+        let most = [2, 20, MAX_EXTENTS][round % 3];
+        let reads = made::trace(&mut random, 700, most);
+        let count = 1 + random.below(12);
+        let parts = cut(&mut random, &reads, count);
+        compare(&mut tally, &mut random, &parts);
+    }
+    tally.at_least(1600);
+}
+
+#[test]
+fn parts_with_refused_reads() {
+    let mut tally = Tally::new("parts with refused reads");
+    let mut random = Random::new(73);
+    for _ in 0..24 {
+        let pool = made::extents(&mut random, 290);
+        let list = [random.shuffled(&pool), made::trace_over(&mut random, &pool, 300)].concat();
+        let (full, _) = read_calls(&list);
+        tally.same(trace::firsts(&full.reads).len(), MAX_EXTENTS, &list);
+        assert!(full.reads.len() < list.len(), "some reads are refused");
+        let known = trace::firsts(&full.reads);
+        let before = made::trace_over(&mut random, &known, 150);
+        let after = made::trace_over(&mut random, &known, 150);
+        let mut parts = cut(&mut random, &before, 3);
+        parts.push(full);
+        parts.extend(cut(&mut random, &after, 2));
+        compare(&mut tally, &mut random, &parts);
+    }
+    tally.at_least(190);
+}
+
+#[test]
+fn a_read_is_a_hit_where_its_distance_is_within_the_size() {
+    let mut tally = Tally::new("uncut readings and caches of all sizes");
+    let mut random = Random::new(74);
+    for _ in 0..120 {
+        let reads = made::trace(&mut random, 200, 25);
+        let (_, answers) = read_calls(&reads);
+        for size in (0..=trace::firsts(&reads).len() as u32 + 1).chain([256, 257, u32::MAX]) {
+            let hits: Vec<bool> = answers.iter().map(|distance| (1..=size).contains(distance)).collect();
+            tally.same(hits, cache::hits(&reads, size), &(&reads, size));
+        }
+    }
+    tally.at_least(1200);
+}
+
+#[test]
+fn joins_of_equal_parts_in_every_order_of_brackets() {
+    let mut tally = Tally::new("groupings of eight parts");
+    let mut random = Random::new(75);
+    for _ in 0..60 {
+        let reads = made::trace(&mut random, 120, 12);
+        let parts = cut(&mut random, &reads, 8);
+        let whole = summary::of(&reads);
+        for _ in 0..30 {
+            tally.same(grouped(&mut random, &parts), whole.clone(), &reads);
+        }
+    }
+    tally.at_least(1800);
+}

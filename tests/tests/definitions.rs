@@ -1,0 +1,113 @@
+//! The plain definitions among themselves: they are what the library is compared with.
+
+use jemqolu_tests::made;
+use jemqolu_tests::plain::trace::{self, Stack};
+use jemqolu_tests::plain::{cache, logs, plans, session, summary};
+use jemqolu_tests::random::Random;
+use jemqolu_tests::tally::Tally;
+
+const THREE: [u32; 3] = [0, 4096, u32::MAX];
+
+/// All short traces, and random ones.
+fn traces() -> Vec<Vec<u32>> {
+    let mut random = Random::new(11);
+    let mut traces = made::all_traces(6, &THREE);
+    traces.extend((0..150).map(|_| made::trace(&mut random, 300, 24)));
+    traces
+}
+
+#[test]
+fn a_counted_distance_is_the_place_in_the_stack() {
+    let mut tally = Tally::new("distances by counting and by the LRU stack");
+    for trace in traces() {
+        tally.same(Stack(Vec::new()).distances(&trace), trace::distances(&trace), &trace);
+    }
+    tally.at_least(1200);
+}
+
+#[test]
+fn a_distance_is_the_smallest_cache_that_hits() {
+    let mut tally = Tally::new("distances and caches of all sizes");
+    for trace in traces() {
+        let distances = trace::distances(&trace);
+        for size in 0..=trace::firsts(&trace).len() as u32 + 1 {
+            let hits: Vec<bool> = distances.iter().map(|distance| (1..=size).contains(distance)).collect();
+            tally.same(cache::hits(&trace, size), hits, &(&trace, size));
+        }
+    }
+    tally.at_least(5000);
+}
+
+#[test]
+fn the_join_of_two_parts_is_the_summary_of_the_whole() {
+    let mut tally = Tally::new("joins by counting and summaries of the whole");
+    for trace in traces() {
+        let whole = summary::of(&trace);
+        let step = 1 + trace.len() / 12;
+        for cut in (0..=trace.len()).step_by(step) {
+            let (front, back) = trace.split_at(cut);
+            let joined = summary::join(&summary::of(front), &summary::of(back));
+            tally.same(joined, Ok(whole.clone()), &(&trace, cut));
+        }
+    }
+    tally.at_least(6000);
+}
+
+#[test]
+fn the_sums_on_the_way_up_are_the_marks_above() {
+    let mut tally = Tally::new("sums on the way up");
+    let mut random = Random::new(12);
+    for _ in 0..60 {
+        let words = made::session(&mut random);
+        assert!(session::sound(&words), "a made session is sound");
+        let marks = session::marks(&words);
+        for (place, slot) in marks.iter().enumerate() {
+            let reading = session::way_up(&words[session::SUMS], *slot);
+            let zeros = (0..9).filter(|digit| slot >> digit & 1 == 0).count() as u32;
+            let wanted = session::Reading { distance: marks.len() - place, sums_read: zeros };
+            tally.same(reading, wanted, &(&marks, slot));
+        }
+    }
+    tally.at_least(1500);
+}
+
+#[test]
+fn a_session_answers_as_the_stack_does() {
+    let mut tally = Tally::new("sessions and the LRU stack");
+    let mut random = Random::new(13);
+    for _ in 0..40 {
+        let trace = made::trace(&mut random, 900, 100);
+        let mut words = session::new();
+        let answers: Vec<u32> =
+            trace.iter().map(|extent| session::accept(&mut words, *extent).distance as u32).collect();
+        tally.same(answers, trace::distances(&trace), &trace);
+        tally.same(session::summary(&words), Ok(summary::of(&trace)), &trace);
+    }
+    tally.at_least(80);
+}
+
+#[test]
+fn a_listing_has_the_misses_of_the_caches() {
+    let mut tally = Tally::new("listings and caches");
+    for trace in traces().iter().step_by(7) {
+        let mut wanted = format!("(sizing\n (reads {})\n (cold {})", trace.len(), trace::firsts(trace).len());
+        for size in 1..=trace::firsts(trace).len() as u32 {
+            wanted += &format!("\n (at {size} {})", cache::misses(trace, size));
+        }
+        wanted += ")\n";
+        tally.same(logs::list(&logs::text(trace)), Ok(wanted.into_bytes()), trace);
+    }
+    tally.at_least(150);
+}
+
+#[test]
+fn a_plan_is_read_back_from_its_text() {
+    let mut tally = Tally::new("plans and their texts");
+    let mut random = Random::new(14);
+    for round in 0..400 {
+        let plan = made::plan(&mut random, round % 9);
+        tally.same(plan.depth(), round % 9, &plan);
+        tally.same(plans::read(&plan.text()), Ok(plan.clone()), &plan);
+    }
+    tally.at_least(800);
+}

@@ -1,0 +1,139 @@
+//! The distances of a part after a prefix.
+
+use jemqolu_tests::plain::trace::{self, Stack};
+use jemqolu_tests::plain::{cache, summary, MAX_EXTENTS, MAX_READS};
+use jemqolu_tests::random::Random;
+use jemqolu_tests::room::{rooms, within};
+use jemqolu_tests::tally::Tally;
+use jemqolu_tests::{calls, made, refusal};
+
+/// Compares the distances of a part in buffers of all lengths of interest.
+fn compare(tally: &mut Tally, prefix: &[u32], reads: &[u32]) {
+    let wanted = summary::distances_after(prefix, reads);
+    for room in rooms(&wanted) {
+        tally.same(calls::distances(prefix, reads, room), within(&wanted, room), &(prefix, reads, room));
+    }
+}
+
+#[test]
+fn all_cuts_of_all_short_traces() {
+    let mut tally = Tally::new("distances at all cuts of all short traces");
+    for trace in made::all_traces(7, &[0, 4096, u32::MAX]) {
+        let whole = trace::distances(&trace);
+        for cut in 0..=trace.len() {
+            let (front, part) = trace.split_at(cut);
+            let got = calls::distances(&summary::of(front), part, part.len());
+            tally.same(got, Ok(whole[cut..].to_vec()), &(&trace, cut));
+        }
+    }
+    tally.at_least(20_000);
+}
+
+#[test]
+fn parts_of_random_traces() {
+    let mut tally = Tally::new("distances of parts of random traces");
+    let mut random = Random::new(41);
+    for _ in 0..700 {
+        let most = random.of(&[3, 30, MAX_EXTENTS]);
+        let trace = made::trace(&mut random, 800, most);
+        let cut = random.below(trace.len() + 1);
+        let (front, part) = trace.split_at(cut);
+        tally.same(
+            calls::distances(&summary::of(front), part, part.len()),
+            Ok(trace::distances(&trace)[cut..].to_vec()),
+            &(&trace, cut),
+        );
+        compare(&mut tally, &summary::of(front), part);
+    }
+    tally.at_least(4000);
+}
+
+#[test]
+fn prefixes_that_no_trace_has() {
+    let mut tally = Tally::new("distances after prefixes that no trace has");
+    let mut random = Random::new(42);
+    for _ in 0..500 {
+        let pool = made::extents(&mut random, 120);
+        let (count, reads) = (random.below(100), random.below(500));
+        let prefix = made::summary_over(&mut random, &pool[..count], 40);
+        let from = random.below(20);
+        let part = made::trace_over(&mut random, &pool[from..], reads);
+        compare(&mut tally, &prefix, &part);
+    }
+    tally.at_least(2500);
+}
+
+#[test]
+fn a_distance_is_the_smallest_cache_that_hits() {
+    let mut tally = Tally::new("distances of the library and caches of all sizes");
+    let mut random = Random::new(43);
+    let mut traces = made::all_traces(5, &[7, 1024, 1_048_576]);
+    traces.extend((0..200).map(|_| made::trace(&mut random, 250, 30)));
+    for trace in traces {
+        let distances = calls::distances(&[0, 0], &trace, trace.len()).expect("a trace within the limits");
+        for size in 0..=trace::firsts(&trace).len() as u32 + 1 {
+            let hits: Vec<bool> = distances.iter().map(|distance| (1..=size).contains(distance)).collect();
+            tally.same(hits, cache::hits(&trace, size), &(&trace, size));
+        }
+    }
+    tally.at_least(3500);
+}
+
+#[test]
+fn at_the_limit_of_extents() {
+    let mut tally = Tally::new("distances at 256 and 257 extents");
+    let mut random = Random::new(44);
+    let mut refused = 0;
+    for (of_prefix, of_part, shared) in
+        [(0, 256, 0), (0, 257, 0), (256, 256, 256), (256, 1, 0), (256, 1, 1), (128, 128, 0)].into_iter().chain([
+            (128, 129, 0),
+            (128, 129, 1),
+            (255, 2, 1),
+            (255, 2, 0),
+            (200, 300, 100),
+        ])
+    {
+        for _ in 0..6 {
+            let pool = made::extents(&mut random, of_prefix + of_part - shared);
+            let prefix = made::summary_over(&mut random, &pool[..of_prefix], 9);
+            let new = &pool[of_prefix - shared..];
+            let more = made::trace_over(&mut random, new, 300);
+            for part in [[new, &more].concat(), [&more, new].concat()] {
+                refused += u32::from(summary::distances_after(&prefix, &part) == Err(refusal::EXTENTS));
+                compare(&mut tally, &prefix, &part);
+            }
+        }
+    }
+    assert_eq!(refused, 60, "the parts with more than 256 extents");
+    tally.at_least(800);
+}
+
+#[test]
+fn at_the_limit_of_reads() {
+    let mut tally = Tally::new("distances at 1,048,576 reads");
+    let mut random = Random::new(45);
+    for (left, reads) in [(0, 0), (0, 1), (1, 1), (1, 2), (500, 499), (500, 500), (500, 501), (500, 900)] {
+        for count in [1, 7, 256] {
+            let extents = made::extents(&mut random, count);
+            let prefix = made::summary_over(&mut random, &extents, MAX_READS as usize - left - count);
+            let part = made::trace_over(&mut random, &extents, reads);
+            compare(&mut tally, &prefix, &part);
+        }
+    }
+    tally.at_least(90);
+}
+
+#[test]
+fn refusals_in_order() {
+    let extents: Vec<u32> = (0..256).collect();
+    let full = made::summary_over(&mut Random::new(46), &extents, MAX_READS as usize - 256);
+    let room_for_one = made::summary_over(&mut Random::new(47), &extents, MAX_READS as usize - 257);
+    assert_eq!(calls::distances(&[1, 0], &[999, 999], 0), Err(refusal::SUMMARY));
+    assert_eq!(calls::distances(&full, &[999], 0), Err(refusal::READS));
+    assert_eq!(calls::distances(&room_for_one, &[999, 999], 0), Err(refusal::READS));
+    assert_eq!(calls::distances(&room_for_one, &[999], 0), Err(refusal::EXTENTS));
+    assert_eq!(calls::distances(&room_for_one, &[9], 0), Err(refusal::ROOM));
+    let mut stack = Stack(room_for_one[258..514].to_vec());
+    assert_eq!(calls::distances(&room_for_one, &[9], 1), Ok(vec![stack.read(9)]));
+    assert_eq!(calls::distances(&full, &[], 0), Ok(vec![]));
+}

@@ -1,0 +1,41 @@
+//! Slices of length 0 whose pointer points at nothing.
+
+use jemqolu_tests::plain::session;
+use jemqolu_tests::{ffi, refusal};
+
+#[test]
+fn a_slice_of_no_words_may_have_any_pointer() {
+    let (mut share, mut sums_read) = (2.5, 77);
+    let mut out = [9; 3];
+    assert_eq!(ffi::summarize(&[], &mut out), Ok(2));
+    assert_eq!(out, [0, 0, 9]);
+    assert_eq!(ffi::summarize(&[], &mut []), Err(refusal::ROOM));
+    assert_eq!(ffi::join(&[], &[], &mut []), Err(refusal::SUMMARY));
+    assert_eq!(ffi::join(&[0, 0], &[], &mut []), Err(refusal::SUMMARY));
+    assert_eq!(ffi::join(&[0, 0], &[0, 0], &mut []), Err(refusal::ROOM));
+    assert_eq!(ffi::distances(&[], &[], &mut []), Err(refusal::SUMMARY));
+    assert_eq!(ffi::distances(&[0, 0], &[], &mut []), Ok(0));
+    assert_eq!(ffi::distances(&[0, 0], &[4], &mut []), Err(refusal::ROOM));
+    assert_eq!(ffi::misses(&[], 1), Err(refusal::SUMMARY));
+    assert_eq!(ffi::share(&[], 1, &mut share), Err(refusal::SUMMARY));
+    assert_eq!(ffi::session_new(&mut []), Err(refusal::ROOM));
+    assert_eq!(ffi::session_read(&mut [], 1, &mut sums_read), Err(refusal::STATE));
+    assert_eq!(ffi::session_summary(&[], &mut []), Err(refusal::STATE));
+    assert_eq!(ffi::session_summary(&session::new(), &mut []), Err(refusal::ROOM));
+    assert_eq!(ffi::watch_new(1, &mut []), Err(refusal::ROOM));
+    assert_eq!(ffi::watch_read(&mut [], 1), Err(refusal::STATE));
+    assert_eq!(ffi::watch_misses(&[]), Err(refusal::STATE));
+    assert_eq!(ffi::watch_share(&[], &mut share), Err(refusal::STATE));
+    assert_eq!((share, sums_read), (2.5, 77));
+}
+
+#[test]
+fn a_slice_of_no_bytes_may_have_any_pointer() {
+    let mut out = [9; 3];
+    assert_eq!(ffi::plan(&[], &[], &mut [], &mut []), Err(refusal::LINE));
+    assert_eq!(ffi::plan(b"(seg 0)\n", &[], &mut [], &mut []), Err(refusal::ROOM));
+    assert_eq!(ffi::plan(b"(seg 0)\n", &[], &mut [], &mut out), Ok(2));
+    assert_eq!(out, [0, 0, 9]);
+    assert_eq!(ffi::list(&[], &mut []), Err(refusal::LINE));
+    assert_eq!(ffi::list(b"(trace)\n", &mut []), Err(refusal::ROOM));
+}

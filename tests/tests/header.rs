@@ -1,0 +1,49 @@
+//! The header: its calls are those declared in `ffi`, and its limits those of the definitions.
+
+use jemqolu_tests::plain::{plans, session, watch, MAX_EXTENTS, MAX_READS};
+
+const HEADER: &str = include_str!("../../include/jemqolu.h");
+
+/// The declarations as they stand in the header, line ends and indents aside.
+const CALLS: [&str; 14] = [
+    "jemqolu_summarize(const uint32_t *reads, size_t reads_len, uint32_t *out, size_t out_len)",
+    "jemqolu_join(const uint32_t *a, size_t a_len, const uint32_t *b, size_t b_len, uint32_t *out, size_t out_len)",
+    "jemqolu_distances(const uint32_t *prefix, size_t prefix_len, const uint32_t *reads, size_t reads_len, \
+     uint32_t *out, size_t out_len)",
+    "jemqolu_misses(const uint32_t *words, size_t words_len, uint32_t size)",
+    "jemqolu_share(const uint32_t *words, size_t words_len, uint32_t size, double *share)",
+    "jemqolu_plan(const uint8_t *text, size_t text_len, const uint32_t *log, size_t log_len, \
+     uint32_t *work, size_t work_len, uint32_t *out, size_t out_len)",
+    "jemqolu_list(const uint8_t *text, size_t text_len, uint8_t *out, size_t out_len)",
+    "jemqolu_session_new(uint32_t *session, size_t session_len)",
+    "jemqolu_session_read(uint32_t *session, size_t session_len, uint32_t extent, uint32_t *sums_read)",
+    "jemqolu_session_summary(const uint32_t *session, size_t session_len, uint32_t *out, size_t out_len)",
+    "jemqolu_watch_new(uint32_t size, uint32_t *watch, size_t watch_len)",
+    "jemqolu_watch_read(uint32_t *watch, size_t watch_len, uint32_t distance)",
+    "jemqolu_watch_misses(const uint32_t *watch, size_t watch_len)",
+    "jemqolu_watch_share(const uint32_t *watch, size_t watch_len, double *share)",
+];
+
+#[test]
+fn the_header_declares_these_calls_and_no_others() {
+    let header = HEADER.split_whitespace().collect::<Vec<&str>>().join(" ");
+    let declared: Vec<&str> = header.split("int64_t ").skip(1).map(|rest| &rest[..rest.find(';').unwrap()]).collect();
+    assert_eq!(declared, CALLS);
+}
+
+#[test]
+fn the_header_has_the_limits_of_the_definitions() {
+    let defined = |name: &str| -> u64 {
+        let line = HEADER.lines().find_map(|line| line.strip_prefix(&format!("#define JEMQOLU_{name} ")));
+        let number = line.and_then(|line| line.split_whitespace().next());
+        number.and_then(|number| number.parse().ok()).unwrap_or_else(|| panic!("no number {name} in the header"))
+    };
+    assert_eq!(defined("MAX_READS"), MAX_READS);
+    assert_eq!(defined("MAX_EXTENTS"), MAX_EXTENTS as u64);
+    assert_eq!(defined("SUMMARY_WORDS"), 2 + 3 * MAX_EXTENTS as u64);
+    assert_eq!(defined("WORK_WORDS"), (plans::LEVEL_WORDS * plans::MAX_DEPTH) as u64);
+    assert_eq!(defined("SESSION_WORDS"), session::WORDS as u64);
+    assert_eq!(defined("WATCH_WORDS"), watch::WORDS as u64);
+    let longest_row = " (at 256 1048576)\n".len() as u64;
+    assert!(defined("LISTING_BYTES") >= (MAX_EXTENTS as u64 + 3) * longest_row);
+}

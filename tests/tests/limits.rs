@@ -1,0 +1,136 @@
+//! Runs of 1,048,576 reads, and of one more.
+
+use jemqolu_tests::guard::Lent;
+use jemqolu_tests::plain::plans::{Carried, Plan, LEVEL_WORDS};
+use jemqolu_tests::plain::session::{self, Reading, WORDS};
+use jemqolu_tests::plain::trace::Stack;
+use jemqolu_tests::plain::{logs, summary, MAX_READS};
+use jemqolu_tests::random::Random;
+use jemqolu_tests::tally::Tally;
+use jemqolu_tests::{calls, ffi, made, refusal};
+
+const MOST: usize = MAX_READS as usize;
+
+/// A trace of one read more than the limit over 256 extents, all of them read early, and its distances.
+fn long_trace() -> (Vec<u32>, Vec<u32>) {
+    let mut random = Random::new(141);
+    let extents = made::extents(&mut random, 256);
+    let near = made::trace_over(&mut random, &extents[..12], MOST + 1 - 256);
+    let mut trace = [extents.clone(), near].concat();
+    for _ in 0..2000 {
+        let place = 256 + random.below(MOST - 256);
+        trace[place] = random.of(&extents);
+    }
+    let distances = Stack(Vec::new()).distances(&trace);
+    (trace, distances)
+}
+
+/// The trace with its last read of an extent that it does not have.
+fn with_another(trace: &[u32]) -> Vec<u32> {
+    let another = (0..).find(|extent| !trace[..256].contains(extent)).expect("a 257th extent");
+    [&trace[..trace.len() - 1], &[another]].concat()
+}
+
+#[test]
+fn whole_traces() {
+    let mut tally = Tally::new("long traces in one call");
+    let (trace, distances) = long_trace();
+    let whole = summary::with_distances(&trace[..MOST], &distances[..MOST]);
+    tally.same(calls::summarize(&trace[..MOST], 770), Ok(whole.clone()), &MOST);
+    tally.same(calls::summarize(&trace[..MOST], 769), Err(refusal::ROOM), &MOST);
+    tally.same(calls::summarize(&trace, 770), Err(refusal::READS), &MOST);
+    tally.same(calls::summarize(&with_another(&trace), 0), Err(refusal::READS), &MOST);
+    tally.same(calls::summarize(&with_another(&trace[..MOST]), 0), Err(refusal::EXTENTS), &MOST);
+    let (front, back) = trace[..MOST].split_at(400_000);
+    let front = calls::summarize(front, 770).expect("a trace within the limits");
+    let back = calls::summarize(back, 770).expect("a trace within the limits");
+    tally.same(calls::join(&front, &back, 770), Ok(whole), &MOST);
+    tally.same(calls::join(&front, &summary::of(&trace[..2]), 770).map(|words| words[0]), Ok(400_002), &MOST);
+    tally.at_least(7);
+}
+
+#[test]
+fn parts_after_a_prefix() {
+    let mut tally = Tally::new("long parts after a prefix");
+    let (trace, distances) = long_trace();
+    let none = [0, 0];
+    tally.same(calls::distances(&none, &trace[..MOST], MOST), Ok(distances[..MOST].to_vec()), &MOST);
+    tally.same(calls::distances(&none, &trace[..MOST], MOST - 1), Err(refusal::ROOM), &MOST);
+    tally.same(calls::distances(&none, &trace, MOST + 1), Err(refusal::READS), &MOST);
+    let one = summary::of(&trace[..1]);
+    tally.same(calls::distances(&one, &trace[1..MOST], MOST), Ok(distances[1..MOST].to_vec()), &MOST);
+    tally.same(calls::distances(&one, &trace[1..], MOST), Err(refusal::READS), &MOST);
+    tally.same(calls::distances(&one, &with_another(&trace[1..]), 0), Err(refusal::READS), &MOST);
+    tally.same(calls::distances(&one, &with_another(&trace[1..MOST]), 0), Err(refusal::EXTENTS), &MOST);
+    tally.at_least(7);
+}
+
+#[test]
+fn plans() {
+    let mut tally = Tally::new("plans of long logs");
+    let (trace, distances) = long_trace();
+    let text = |rest: usize| {
+        let inner = Plan::Join(vec![Plan::Seg(5), Plan::Seg(0), Plan::Seg(500_000)]);
+        Plan::Join(vec![Plan::Seg(300_000), inner, Plan::Seg(rest as u64 - 800_005)]).text()
+    };
+    let words = summary::with_distances(&trace[..MOST], &distances[..MOST]);
+    let carried = Carried { words, cleared: 2 * LEVEL_WORDS };
+    tally.same(calls::plan(&text(MOST), &trace[..MOST], 2 * LEVEL_WORDS, 770), Ok(carried), &MOST);
+    tally.same(calls::plan(&text(MOST), &trace[..MOST], 2 * LEVEL_WORDS, 769), Err(refusal::ROOM), &MOST);
+    tally.same(calls::plan(&text(MOST), &trace, 0, 0), Err(refusal::SEGS), &MOST);
+    tally.same(calls::plan(&text(MOST + 1), &trace, 2 * LEVEL_WORDS, 770), Err(refusal::READS), &MOST);
+    tally.same(calls::plan(&text(MOST + 1), &with_another(&trace), 0, 0), Err(refusal::READS), &MOST);
+    tally.same(calls::plan(&text(MOST), &with_another(&trace[..MOST]), 0, 0), Err(refusal::EXTENTS), &MOST);
+    tally.at_least(6);
+}
+
+#[test]
+fn log_texts() {
+    let mut tally = Tally::new("long log texts");
+    let (trace, _) = long_trace();
+    let whole = logs::text(&trace[..MOST]);
+    let listing = logs::listing(&trace[..MOST]);
+    tally.same(calls::list(&whole, listing.len() - 1), Err(refusal::ROOM), &MOST);
+    tally.same(calls::list(&whole, 8192), Ok(listing), &MOST);
+    let open = [&whole[..whole.len() - 2], b"\n"].concat();
+    let then = |line: &str| calls::list(&[&open, line.as_bytes()].concat(), 0);
+    let another = with_another(&trace)[MOST];
+    tally.same(then(&format!(" (read {}))\n", trace[0])), Err(refusal::READS), &MOST);
+    tally.same(then(&format!(" (read {another}))\n")), Err(refusal::READS), &MOST);
+    tally.same(then(&format!(" (read {another})\n")), Err(refusal::READS), &MOST);
+    tally.same(then(" (read 4294967296)\n"), Err(refusal::NUMBER), &MOST);
+    tally.same(then(" (read 4294967296)"), Err(refusal::LINE), &MOST);
+    tally.same(then(""), Err(refusal::LINE), &MOST);
+    tally.same(calls::list(&logs::text(&with_another(&trace[..MOST])), 0), Err(refusal::EXTENTS), &MOST);
+    tally.at_least(9);
+}
+
+#[test]
+fn a_session_of_all_reads() {
+    let mut tally = Tally::new("reads of a long session");
+    let mut random = Random::new(142);
+    let extents = made::extents(&mut random, 6);
+    let mut trace = made::trace_over(&mut random, &extents, MOST - 6);
+    trace.extend(&extents);
+    let (mut session, mut sums_read) = (Lent::<u32>::room(WORDS + 1), Lent::<u32>::room(1));
+    tally.same(ffi::session_new(session.cells_mut()), Ok(WORDS), &MOST);
+    let mut wanted = session::new();
+    for extent in &trace {
+        let distance = ffi::session_read(session.cells_mut(), *extent, &mut sums_read.cells_mut()[0]);
+        let got = distance.map(|distance| Reading { distance, sums_read: sums_read.written(1)[0] });
+        tally.same(got, Ok(session::accept(&mut wanted, *extent)), &extent);
+        assert!(session.written(WORDS) == wanted, "the session's words");
+    }
+    session.settle();
+    sums_read.settle();
+    for extent in [trace[0], extents[0] ^ 1] {
+        let refused = ffi::session_read(session.cells_mut(), extent, &mut sums_read.cells_mut()[0]);
+        tally.same(refused, Err(refusal::READS), &extent);
+        session.assert_kept();
+        sums_read.assert_kept();
+    }
+    let distances = Stack(Vec::new()).distances(&trace);
+    let summary = calls::session_summary(session.cells(), 770);
+    tally.same(summary, Ok(summary::with_distances(&trace, &distances)), &MOST);
+    tally.at_least(MAX_READS + 4);
+}

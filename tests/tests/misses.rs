@@ -1,0 +1,81 @@
+//! Misses and hit shares of summaries.
+
+use jemqolu_tests::plain::{cache, hit_share, summary, MAX_READS};
+use jemqolu_tests::random::Random;
+use jemqolu_tests::tally::Tally;
+use jemqolu_tests::{calls, made, Answer};
+
+/// Sizes to try for a summary: all that matter, and large ones.
+fn sizes(words: &[u32]) -> Vec<u32> {
+    let v = words.get(1).copied().unwrap_or(0).min(300);
+    let near: Vec<u32> = if v <= 40 { (0..=v + 2).collect() } else { vec![0, 1, 2, v / 2, v - 1, v, v + 1] };
+    [near, vec![255, 256, 257, 65_536, 1 << 31, u32::MAX - 1, u32::MAX]].concat()
+}
+
+/// A share as its bits, so that two that compare equal are the same number.
+fn bits(share: Answer<Option<f64>>) -> Answer<Option<u64>> {
+    share.map(|share| share.map(f64::to_bits))
+}
+
+/// Compares the misses and the share of a summary at all sizes of interest.
+fn compare(tally: &mut Tally, words: &[u32]) {
+    for size in sizes(words) {
+        tally.same(calls::misses(words, size), summary::misses(words, size), &(words, size));
+        tally.same(bits(calls::share(words, size)), bits(summary::share(words, size)), &(words, size));
+    }
+}
+
+#[test]
+fn the_caches_that_read_a_trace() {
+    let mut tally = Tally::new("misses and shares, and caches");
+    let mut random = Random::new(51);
+    let mut traces = made::all_traces(6, &[0, 4096, u32::MAX]);
+    traces.extend((0..120).map(|_| made::trace(&mut random, 300, 30)));
+    for trace in traces {
+        let words = summary::of(&trace);
+        for size in sizes(&words) {
+            let misses = cache::misses(&trace, size);
+            let share = hit_share(trace.len() as u64 - misses, trace.len() as u64);
+            tally.same(calls::misses(&words, size), Ok(misses), &(&trace, size));
+            tally.same(bits(calls::share(&words, size)), bits(Ok(share)), &(&trace, size));
+        }
+    }
+    tally.at_least(20_000);
+}
+
+#[test]
+fn words_that_no_trace_has() {
+    let mut tally = Tally::new("misses and shares of words that no trace has");
+    let mut random = Random::new(52);
+    for round in 0..1500 {
+        let most = if round % 3 == 0 { 256 } else { 12 };
+        let words = made::summary(&mut random, most);
+        compare(&mut tally, &words);
+    }
+    tally.at_least(30_000);
+}
+
+#[test]
+fn many_hits_by_many_reads() {
+    let mut tally = Tally::new("shares of many reads");
+    let mut random = Random::new(53);
+    for _ in 0..3000 {
+        let warm = random.below(MAX_READS as usize);
+        let words = made::summary_over(&mut random, &[8, 0], warm.min(MAX_READS as usize - 2));
+        compare(&mut tally, &words);
+    }
+    for warm in [MAX_READS as usize - 1, MAX_READS as usize - 2] {
+        compare(&mut tally, &[warm as u32 + 1, 1, 8, 8, warm as u32]);
+    }
+    tally.at_least(60_000);
+}
+
+#[test]
+fn no_reads() {
+    let mut tally = Tally::new("misses and shares of no reads");
+    for size in sizes(&[0, 0]) {
+        tally.same(calls::misses(&[0, 0], size), Ok(0), &size);
+        tally.same(calls::share(&[0, 0], size), Ok(None), &size);
+    }
+    tally.at_least(20);
+}

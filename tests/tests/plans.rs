@@ -1,0 +1,214 @@
+//! Joining plans carried out on logs.
+
+use jemqolu_tests::plain::plans::{self, Carried, Plan, LEVEL_WORDS, MAX_BYTES, MAX_DEPTH, MAX_PARTS};
+use jemqolu_tests::plain::{summary, MAX_EXTENTS, MAX_READS};
+use jemqolu_tests::random::Random;
+use jemqolu_tests::tally::Tally;
+use jemqolu_tests::{calls, made, refusal};
+
+/// Compares a plan in work words and buffers of all lengths of interest.
+fn compare(tally: &mut Tally, text: &[u8], log: &[u32]) {
+    let wanted = plans::carry_out(text, log);
+    let (work, words) = wanted.as_ref().map_or((0, 2), |carried| (carried.cleared, carried.words.len()));
+    let lengths = [(work, words), (work + 3, words + 5), (work, words - 1), (work + LEVEL_WORDS, words)];
+    let short = [(work.saturating_sub(1), words), (0, words), (work, 0), (work.saturating_sub(LEVEL_WORDS), words)];
+    for (work, room) in lengths.into_iter().chain(short) {
+        let got = calls::plan(text, log, work, room);
+        tally.same(got, plans::within(&wanted, work, room), &(String::from_utf8_lossy(text), log, work, room));
+    }
+}
+
+/// A log of as many reads as the plan has, over up to so many extents.
+fn log_for(random: &mut Random, plan: &Plan, most_extents: usize) -> Vec<u32> {
+    let count = 1 + random.below(most_extents);
+    let extents = made::extents(random, count);
+    made::trace_over(random, &extents, plan.reads() as usize)
+}
+
+#[test]
+fn plans_of_all_depths() {
+    let mut tally = Tally::new("plans of all depths");
+    let mut random = Random::new(111);
+    for round in 0..450 {
+        let plan = made::plan(&mut random, round % (MAX_DEPTH + 1));
+        let log = log_for(&mut random, &plan, 20);
+        let carried = calls::plan(&plan.text(), &log, LEVEL_WORDS * plan.depth(), 770);
+        let wanted = Carried { words: summary::of(&log), cleared: LEVEL_WORDS * plan.depth() };
+        tally.same(carried, Ok(wanted), &(&plan, &log));
+        compare(&mut tally, &plan.text(), &log);
+    }
+    tally.at_least(4000);
+}
+
+/// All plans of at most so many segs and this depth, each seg of one or two reads.
+fn small_plans(segs: usize, depth: usize) -> Vec<Plan> {
+    if depth == 0 {
+        return vec![Plan::Seg(1), Plan::Seg(2)];
+    }
+    let inner = small_plans(segs - 1, depth - 1);
+    let mut all = inner.clone();
+    for one in &inner {
+        for other in &inner {
+            all.push(Plan::Join(vec![one.clone(), other.clone()]));
+            if segs > 2 && depth == 1 {
+                all.push(Plan::Join(vec![one.clone(), other.clone(), one.clone()]));
+            }
+        }
+    }
+    all
+}
+
+#[test]
+fn all_small_plans() {
+    let mut tally = Tally::new("all small plans");
+    for plan in small_plans(4, 2).into_iter().chain(small_plans(2, 1)) {
+        let log: Vec<u32> = [7, 3, 7, 9, 3, 3, 9, 1, 1, 7, 3, 5].into_iter().take(plan.reads() as usize).collect();
+        if plan.reads() <= 12 {
+            compare(&mut tally, &plan.text(), &log);
+        }
+    }
+    tally.at_least(800);
+}
+
+#[test]
+fn segs_that_do_not_add_up() {
+    let mut tally = Tally::new("plans whose segs do not add up to the log");
+    let mut random = Random::new(112);
+    for round in 0..120 {
+        let plan = made::plan(&mut random, round % 4);
+        let mut log = log_for(&mut random, &plan, 9);
+        log.push(4);
+        tally.same(calls::plan(&plan.text(), &log, 0, 0), Err(refusal::SEGS), &(&plan, &log));
+        compare(&mut tally, &plan.text(), &log);
+        log.truncate(log.len().saturating_sub(2));
+        compare(&mut tally, &plan.text(), &log);
+    }
+    let many = Plan::Join(vec![Plan::Seg(MAX_READS); MAX_PARTS]);
+    let more = Plan::Join(vec![many; MAX_PARTS]);
+    compare(&mut tally, &Plan::Join(vec![more.clone(); MAX_PARTS]).text(), &[]);
+    compare(&mut tally, &Plan::Join(vec![more; MAX_PARTS]).text(), &[1, 2, 3]);
+    tally.at_least(2000);
+}
+
+#[test]
+fn at_the_limit_of_extents() {
+    let mut tally = Tally::new("plans at 256 and 257 extents");
+    let mut random = Random::new(113);
+    let mut refused = 0;
+    for count in [255, 256, 257, 300] {
+        for _ in 0..8 {
+            let extents = made::extents(&mut random, count);
+            let log = [extents.clone(), made::trace_over(&mut random, &extents, 100)].concat();
+            let cut = random.below(log.len() + 1) as u64;
+            let segs = vec![Plan::Seg(cut), Plan::Seg(0), Plan::Seg(log.len() as u64 - cut)];
+            let text = Plan::Join(segs).text();
+            refused += u32::from(plans::carry_out(&text, &log) == Err(refusal::EXTENTS));
+            compare(&mut tally, &text, &log);
+            compare(&mut tally, &Plan::Seg(log.len() as u64).text(), &log);
+        }
+    }
+    assert_eq!(refused, 16, "the logs of more than {MAX_EXTENTS} extents");
+    tally.at_least(500);
+}
+
+/// A text of one join nested in another, so many deep.
+fn nested(depth: usize) -> Vec<u8> {
+    let mut plan = Plan::Seg(1);
+    for _ in 0..depth {
+        plan = Plan::Join(vec![Plan::Seg(1), plan]);
+    }
+    plan.text()
+}
+
+#[test]
+fn at_the_limits_of_depth_and_parts() {
+    let mut tally = Tally::new("plans at the limits of depth and parts");
+    for depth in 0..12 {
+        let log = vec![4; depth + 1];
+        compare(&mut tally, &nested(depth), &log);
+        let wanted = if depth > MAX_DEPTH { Err(refusal::PLAN) } else { Ok(LEVEL_WORDS * depth) };
+        let got = calls::plan(&nested(depth), &log, LEVEL_WORDS * 12, 770);
+        tally.same(got.map(|carried| carried.cleared), wanted, &depth);
+    }
+    for parts in 2..20 {
+        let plan = Plan::Join(vec![Plan::Seg(1); parts]);
+        let inner = Plan::Join(vec![Plan::Seg(1), plan.clone(), plan.clone()]);
+        compare(&mut tally, &plan.text(), &vec![4; parts]);
+        compare(&mut tally, &inner.text(), &vec![4; 2 * parts + 1]);
+        let wanted = if parts > MAX_PARTS { Err(refusal::PLAN) } else { Ok(LEVEL_WORDS) };
+        let got = calls::plan(&plan.text(), &vec![4; parts], LEVEL_WORDS, 770);
+        tally.same(got.map(|carried| carried.cleared), wanted, &parts);
+    }
+    let seventeenth_join = Plan::Join([vec![Plan::Seg(0); 16], vec![Plan::Join(vec![Plan::Seg(0); 2])]].concat());
+    compare(&mut tally, &seventeenth_join.text(), &[]);
+    tally.at_least(400);
+}
+
+/// A plan of three levels of joins of 16 parts, some of whose segs are of 10 reads, so that its text is so long.
+fn plan_of_length(bytes: usize) -> Plan {
+    let level = |inner: &Plan| Plan::Join(vec![inner.clone(); MAX_PARTS]);
+    let three = level(&level(&level(&Plan::Seg(0))));
+    let four = |parts: usize| Plan::Join([vec![three.clone()], vec![level(&level(&Plan::Seg(0))); parts]].concat());
+    let parts = (1..MAX_PARTS).rev().find(|parts| four(*parts).text().len() <= bytes).expect("a plan short enough");
+    let mut plan = four(parts);
+    let mut left = bytes - plan.text().len();
+    lengthen(&mut plan, &mut left);
+    assert_eq!((plan.text().len(), left), (bytes, 0));
+    plan
+}
+
+/// Makes each of the first so many segs of a plan one digit longer.
+fn lengthen(plan: &mut Plan, left: &mut usize) {
+    match plan {
+        Plan::Seg(reads) if *left > 0 => {
+            *reads = 10;
+            *left -= 1;
+        }
+        Plan::Seg(_) => {}
+        Plan::Join(parts) => parts.iter_mut().for_each(|part| lengthen(part, left)),
+    }
+}
+
+#[test]
+fn at_the_limit_of_bytes() {
+    let mut tally = Tally::new("plans at 65,536 bytes");
+    let mut random = Random::new(114);
+    for bytes in [MAX_BYTES - 1, MAX_BYTES, MAX_BYTES + 1] {
+        let plan = plan_of_length(bytes);
+        let log = log_for(&mut random, &plan, 5);
+        let got = calls::plan(&plan.text(), &log, LEVEL_WORDS * 4, 770);
+        let carried = Carried { words: summary::of(&log), cleared: LEVEL_WORDS * 4 };
+        let wanted = if bytes > MAX_BYTES { Err(refusal::PLAN) } else { Ok(carried) };
+        tally.same(got, wanted, &bytes);
+    }
+    for byte in [b' ', b'x', b'\n', b'('] {
+        for bytes in [MAX_BYTES - 1, MAX_BYTES, MAX_BYTES + 1, 4 * MAX_BYTES] {
+            let text = vec![byte; bytes];
+            tally.same(calls::plan(&text, &[], 0, 0), plans::carry_out(&text, &[]), &bytes);
+        }
+    }
+    tally.at_least(19);
+}
+
+#[test]
+fn refusals_in_order() {
+    let long: Vec<u32> = (0..1000).collect();
+    let over = |front: &str| [front.as_bytes(), &vec![b' '; MAX_BYTES]].concat();
+    let plan = |text: &[u8]| calls::plan(text, &long, 0, 0);
+    assert_eq!(plan(&over("(seg x)\n")), Err(refusal::PLAN));
+    assert_eq!(plan(b"(seg 9999999)\n(seg 1)\n"), Err(refusal::NUMBER));
+    assert_eq!(plan(b"(seg 9999999)x\n"), Err(refusal::LINE));
+    assert_eq!(plan(b"(seg 1048577)\n"), Err(refusal::NUMBER));
+    assert_eq!(plan(b"(seg 1048576)\n"), Err(refusal::SEGS));
+    assert_eq!(plan(b"(seg 1000)\n"), Err(refusal::EXTENTS));
+    assert_eq!(calls::plan(b"(seg 256)\n", &long[..256], 0, 769), Err(refusal::ROOM));
+    let sixteen = |last: &str| format!("(join\n{}{last}\n", " (seg 0)\n".repeat(16)).into_bytes();
+    assert_eq!(plan(&sixteen(" (seg 0)")), Err(refusal::PLAN));
+    assert_eq!(plan(&sixteen(" (seg 1048577)")), Err(refusal::NUMBER));
+    assert_eq!(plan(&sixteen(" (seg 01)")), Err(refusal::LINE));
+    assert_eq!(plan(&sixteen(" (join")), Err(refusal::PLAN));
+    assert_eq!(plan(&sixteen(" (seg 0")), Err(refusal::LINE));
+    let unended = |text: Vec<u8>| plan(&text[..text.len() - 1]);
+    assert_eq!(unended(sixteen(" (seg 0)")), Err(refusal::LINE));
+    assert_eq!(unended(b"(seg 1048577)\n".to_vec()), Err(refusal::LINE));
+}

@@ -1,0 +1,119 @@
+//! The requirements' own examples: every row of 'Sessions to try', the sample texts, and the four quiet wrong joins.
+
+use jemqolu_tests::plain::session::{Reading, READS, WORDS};
+use jemqolu_tests::{calls, made, refusal, Answer};
+
+const SEVEN: [u32; 7] = [7, 3, 7, 9, 3, 3, 9];
+const SUMMARY: [u32; 11] = [7, 3, 7, 3, 9, 9, 3, 7, 1, 2, 1];
+const FRONT: [u32; 11] = [4, 3, 7, 3, 9, 9, 7, 3, 0, 1, 0];
+const BACK: [u32; 8] = [3, 2, 3, 9, 9, 3, 1, 0];
+
+/// A session that has read these, and the answers.
+fn read_all(trace: &[u32]) -> (Vec<u32>, Vec<Answer<Reading>>) {
+    let mut session = calls::session_new(WORDS).expect("a new session");
+    let answers = trace.iter().map(|extent| calls::session_read(&mut session, *extent)).collect();
+    (session, answers)
+}
+
+/// An accepted read.
+fn reading(distance: usize, sums_read: u32) -> Answer<Reading> {
+    Ok(Reading { distance, sums_read })
+}
+
+#[test]
+fn the_seven_reads() {
+    let (session, answers) = read_all(&SEVEN);
+    let wanted = [(0, 0), (0, 0), (2, 9), (0, 0), (3, 8), (1, 8), (2, 7)];
+    assert_eq!(answers, wanted.map(|(distance, sums_read)| reading(distance, sums_read)));
+    assert_eq!(calls::session_summary(&session, 11), Ok(SUMMARY.to_vec()));
+    assert_eq!(calls::distances(&[0, 0], &SEVEN, 7), Ok(vec![0, 0, 2, 0, 3, 1, 2]));
+}
+
+#[test]
+fn the_summaries_and_their_join() {
+    assert_eq!(calls::summarize(&SEVEN, 11), Ok(SUMMARY.to_vec()));
+    assert_eq!(calls::summarize(&SEVEN[..4], 11), Ok(FRONT.to_vec()));
+    assert_eq!(calls::summarize(&SEVEN[4..], 11), Ok(BACK.to_vec()));
+    assert_eq!(calls::session_summary(&read_all(&SEVEN[..4]).0, 11), Ok(FRONT.to_vec()));
+    assert_eq!(calls::session_summary(&read_all(&SEVEN[4..]).0, 11), Ok(BACK.to_vec()));
+    assert_eq!(calls::join(&FRONT, &BACK, 11), Ok(SUMMARY.to_vec()));
+    assert_eq!(calls::join(&[0, 0], &[0, 0], 2), Ok(vec![0, 0]));
+}
+
+#[test]
+fn the_misses_and_the_shares() {
+    assert_eq!([0, 2, 9].map(|size| calls::misses(&SUMMARY, size)), [Ok(7), Ok(4), Ok(3)]);
+    assert_eq!(calls::share(&[0, 0], 3), Ok(None));
+    assert_eq!(calls::share(&SUMMARY, 2), Ok(Some(3.0 / 7.0)));
+    let watch = [2, 7, 3, 3];
+    assert_eq!(calls::watch_misses(&watch), Ok(4));
+    assert_eq!(calls::watch_share(&watch), Ok(Some(3.0 / 7.0)));
+}
+
+#[test]
+fn one_extent_at_read_512_and_513() {
+    let (_, answers) = read_all(&[5; 513]);
+    assert_eq!(answers[511], reading(1, 1));
+    assert_eq!(answers[512], reading(1, 9));
+}
+
+#[test]
+fn the_256_extents_and_another() {
+    let extents: Vec<u32> = (0..256).collect();
+    let (mut session, answers) = read_all(&extents);
+    assert_eq!(answers, vec![reading(0, 0); 256]);
+    assert_eq!(calls::session_read(&mut session, 256), Err(refusal::EXTENTS));
+    assert_eq!(calls::session_read(&mut session, 0), reading(256, 9));
+    assert_eq!(calls::session_read(&mut session, 256), Err(refusal::EXTENTS));
+}
+
+#[test]
+fn read_1048576_and_the_next() {
+    let mut random = jemqolu_tests::random::Random::new(1);
+    let mut session = made::session_over(&mut random, &[5], 1_048_574, 1);
+    assert_eq!(session[READS], 1_048_575);
+    assert_eq!(calls::session_read(&mut session, 5), reading(1, 9));
+    assert_eq!(session[READS], 1_048_576);
+    assert_eq!(calls::session_read(&mut session, 5), Err(refusal::READS));
+}
+
+#[test]
+fn the_sample_plan_and_the_sample_listing() {
+    let plan = b"(join\n (seg 4)\n (join\n  (seg 1)\n  (seg 2)))\n";
+    let carried = calls::plan(plan, &SEVEN, 3080, 11).expect("the sample plan");
+    assert_eq!((carried.words, carried.cleared), (SUMMARY.to_vec(), 3080));
+    let log = b"(trace\n (read 7)\n (read 3)\n (read 7)\n (read 9)\n (read 3)\n (read 3)\n (read 9))\n";
+    let listing = b"(sizing\n (reads 7)\n (cold 3)\n (at 1 6)\n (at 2 4)\n (at 3 3))\n";
+    assert_eq!(calls::list(log, 8192), Ok(listing.to_vec()));
+    assert_eq!(calls::list(b"(trace)\n", 8192), Ok(b"(sizing\n (reads 0)\n (cold 0))\n".to_vec()));
+}
+
+#[test]
+fn counts_from_both_sides_are_not_added() {
+    // 1 2, then 2 1: the last read has distance 2; to add 1 extent in R and 1 in F would give 3
+    let (a, b) = ([2, 2, 1, 2, 2, 1, 0, 0], [2, 2, 2, 1, 1, 2, 0, 0]);
+    assert_eq!(calls::join(&a, &b, 8), Ok(vec![4, 2, 1, 2, 1, 2, 1, 1]));
+}
+
+#[test]
+fn first_reads_of_a_part_are_not_cold_after_a_prefix() {
+    // 4, then 4: one cold read, and one of distance 1
+    let four = [1, 1, 4, 4, 0];
+    assert_eq!(calls::join(&four, &four, 5), Ok(vec![2, 1, 4, 4, 1]));
+    assert_eq!(calls::distances(&four, &[4], 1), Ok(vec![1]));
+}
+
+#[test]
+fn the_last_place_of_a_repeated_extent_is_kept() {
+    // 1 2, then 1: R is 1 2, and the 1 stands where the later part read it
+    let (a, b) = ([2, 2, 1, 2, 2, 1, 0, 0], [1, 1, 1, 1, 0]);
+    assert_eq!(calls::join(&a, &b, 8), Ok(vec![3, 2, 1, 2, 1, 2, 0, 1]));
+    assert_eq!(calls::summarize(&[1, 2, 1], 8), Ok(vec![3, 2, 1, 2, 1, 2, 0, 1]));
+}
+
+#[test]
+fn what_stands_before_is_counted_in_first_of_b() {
+    // 1, then 1 2: before 1 nothing stands in F of B, but 2 stands in R of B
+    let (a, b) = ([1, 1, 1, 1, 0], [2, 2, 1, 2, 2, 1, 0, 0]);
+    assert_eq!(calls::join(&a, &b, 8), Ok(vec![3, 2, 1, 2, 2, 1, 1, 0]));
+}

@@ -1,0 +1,75 @@
+//! Summaries of whole traces in one call.
+
+use jemqolu_tests::plain::{summary, trace, MAX_EXTENTS};
+use jemqolu_tests::random::Random;
+use jemqolu_tests::room::{rooms, within};
+use jemqolu_tests::tally::Tally;
+use jemqolu_tests::{calls, made, refusal};
+
+/// Compares the summary of a trace in buffers of all lengths of interest.
+fn compare(tally: &mut Tally, trace: &[u32]) {
+    let wanted = summary::summarize(trace);
+    for room in rooms(&wanted) {
+        tally.same(calls::summarize(trace, room), within(&wanted, room), &(trace, room));
+    }
+}
+
+#[test]
+fn all_short_traces() {
+    let mut tally = Tally::new("summaries of all short traces");
+    for extents in [[1, 2, 3], [0, 4096, u32::MAX], [1024, 2048, 0]] {
+        for trace in made::all_traces(7, &extents) {
+            compare(&mut tally, &trace);
+        }
+    }
+    tally.at_least(55_000);
+}
+
+#[test]
+fn random_traces() {
+    let mut tally = Tally::new("summaries of random traces");
+    let mut random = Random::new(21);
+    for _ in 0..1500 {
+        let trace = made::trace(&mut random, 300, 40);
+        compare(&mut tally, &trace);
+    }
+    for _ in 0..150 {
+        let trace = made::trace(&mut random, 4000, MAX_EXTENTS);
+        compare(&mut tally, &trace);
+    }
+    tally.at_least(10_000);
+}
+
+#[test]
+fn at_the_limit_of_extents() {
+    let mut tally = Tally::new("summaries at 256 and 257 extents");
+    let mut random = Random::new(22);
+    let mut refused = 0;
+    for count in [255, 256, 257, 258, 300, 1000] {
+        for _ in 0..10 {
+            let extents = made::extents(&mut random, count);
+            let more = made::trace_over(&mut random, &extents, 500);
+            for trace in [extents.clone(), [extents.clone(), more.clone()].concat(), [more, extents].concat()] {
+                refused += u32::from(summary::summarize(&trace) == Err(refusal::EXTENTS));
+                compare(&mut tally, &trace);
+            }
+        }
+    }
+    assert_eq!(refused, 120, "the traces of more than 256 extents");
+    tally.at_least(700);
+}
+
+#[test]
+fn a_summary_is_well_formed_and_has_the_extents_of_its_trace() {
+    let mut tally = Tally::new("parts of summaries");
+    let mut random = Random::new(23);
+    for _ in 0..300 {
+        let trace = made::trace(&mut random, 400, 60);
+        let words = calls::summarize(&trace, 770).expect("a trace within the limits");
+        let parts = summary::well_formed(&words).expect("a well-formed summary");
+        tally.same(parts.firsts, &trace::firsts(&trace), &trace);
+        tally.same(parts.recents, &trace::recents(&trace), &trace);
+        tally.same(parts.reads, trace.len() as u64, &trace);
+    }
+    tally.at_least(900);
+}
