@@ -43,8 +43,8 @@ static void plan_row(Kind kind) {
 
 void join_tables() {
     begin_table("The join of two full summaries",
-                "Microseconds; both have the same 256 extents in other orders, and 500,000 reads each; beside 1,000 reads of "
-                "the whole trace's summary.",
+                "Microseconds; both have the same 256 extents in other orders, and 500,000 reads each; beside 1,000 "
+                "reads of the whole trace's summary.",
                 {"traces", "join, µs", "1,000 batch reads, µs", "join / 1,000 reads", "spread: join, batch"});
     for (Kind kind : all_kinds()) join_row(kind);
     begin_table("A plan of 16 parts",
