@@ -6,13 +6,16 @@
 
 static int counted_rounds = 7;
 
-void set_rounds(int rounds) { counted_rounds = rounds; }
-
 void demand(bool condition, const std::string &message) {
     if (condition) return;
     fflush(stdout);
     fprintf(stderr, "bench: %s\n", message.c_str());
     exit(1);
+}
+
+void set_rounds(int rounds) {
+    demand(rounds >= 1, "at least one round is needed");
+    counted_rounds = rounds;
 }
 
 static double seconds_of(const Contestant &contestant, Words &out) {
