@@ -1,0 +1,80 @@
+// Whole traces in one call, beside the peers: summaries, distances, and how the cost grows.
+#include "ours.hpp"
+#include "peers/peer.hpp"
+#include "tables.hpp"
+#include "tasks.hpp"
+
+static const size_t READS = 1000000;
+
+// A trace, and the calls of it that are timed together.
+struct Batch {
+    std::string name;
+    Words reads;
+    size_t calls;
+};
+
+// The library and the peers, each doing the same calls.
+static std::vector<Contestant> contestants(const Batch &batch, bool whole_summary) {
+    const Words &reads = batch.reads;
+    size_t calls = batch.calls;
+    std::vector<Contestant> all;
+    all.push_back({"ours", [&reads, calls, whole_summary](Words &out) {
+                       static const Words none = {0, 0};
+                       for (size_t i = 0; i < calls; i++) {
+                           whole_summary ? summarize(reads, out) : distances(none, reads, out);
+                       }
+                   }});
+    for (const Peer *peer : all_peers()) {
+        auto call = whole_summary ? peer->summarize : peer->distances;
+        all.push_back({peer->name, [&reads, calls, call](Words &out) {
+                           for (size_t i = 0; i < calls; i++) call(reads.data(), reads.size(), out.data());
+                       }});
+    }
+    return all;
+}
+
+static Row head(const std::string &first) {
+    Row cells = {first, "ours"};
+    for (const Peer *peer : all_peers()) cells.push_back(peer->name);
+    cells.insert(cells.end(), {"ours / fastest peer", "fastest peer", "spread: ours, peers"});
+    return cells;
+}
+
+// One row: nanoseconds per read of each contestant, and the ratio.
+static void row(const Batch &batch, bool whole_summary) {
+    size_t out_words = whole_summary ? JEMQOLU_SUMMARY_WORDS : batch.reads.size();
+    std::string what = std::string(whole_summary ? "summary, " : "distances, ") + batch.name;
+    std::vector<Time> times = timed(what, out_words, contestants(batch, whole_summary));
+    double reads = static_cast<double>(batch.reads.size() * batch.calls);
+    Row cells = {batch.name};
+    size_t fastest = 1;
+    for (size_t i = 0; i < times.size(); i++) {
+        cells.push_back(number(times[i].least / reads * 1e9));
+        if (i > 1 && times[i].least < times[fastest].least) fastest = i;
+    }
+    cells.push_back(number(times[0].least / times[fastest].least));
+    cells.push_back(all_peers()[fastest - 1]->name);
+    cells.push_back(spread(times));
+    print_row(cells);
+}
+
+static void kinds(const std::string &title, bool whole_summary) {
+    begin_table(title, "Nanoseconds per read; 1,000,000 reads of 256 extents.", head("trace"));
+    for (Kind kind : all_kinds()) row({name_of(kind), trace_of(kind, READS, 256, 1), 1}, whole_summary);
+}
+
+void batch_tables() {
+    kinds("The summary of a trace", true);
+    kinds("The distances of a trace", false);
+    begin_table("The summary by the number of extents", "Nanoseconds per read; 1,000,000 reads, uniform.",
+                head("extents"));
+    for (size_t extents : {1, 4, 16, 64, 256}) {
+        row({std::to_string(extents), trace_of(Kind::uniform, READS, extents, 1), 1}, true);
+    }
+    begin_table("The summary by the number of reads",
+                "Nanoseconds per read; uniform over 256 extents; short traces are called again to a million reads.",
+                head("reads"));
+    for (size_t reads = 1000; reads <= READS; reads *= 10) {
+        row({std::to_string(reads), trace_of(Kind::uniform, reads, 256, 1), READS / reads}, true);
+    }
+}

@@ -1,0 +1,58 @@
+#include "ours.hpp"
+#include "rounds.hpp"
+
+static size_t accepted(int64_t answer, const char *call) {
+    demand(answer >= 0, std::string(call) + " answers " + std::to_string(answer));
+    return static_cast<size_t>(answer);
+}
+
+static const uint8_t *bytes_of(const std::string &text) { return reinterpret_cast<const uint8_t *>(text.data()); }
+
+size_t summarize(const Words &reads, Words &out) {
+    return accepted(jemqolu_summarize(reads.data(), reads.size(), out.data(), out.size()), "jemqolu_summarize");
+}
+
+size_t join(const Words &a, const Words &b, Words &out) {
+    return accepted(jemqolu_join(a.data(), a.size(), b.data(), b.size(), out.data(), out.size()), "jemqolu_join");
+}
+
+size_t distances(const Words &prefix, const Words &reads, Words &out) {
+    return accepted(jemqolu_distances(prefix.data(), prefix.size(), reads.data(), reads.size(), out.data(), out.size()),
+                    "jemqolu_distances");
+}
+
+size_t plan(const std::string &text, const Words &log, Words &work, Words &out) {
+    return accepted(jemqolu_plan(bytes_of(text), text.size(), log.data(), log.size(), work.data(), work.size(),
+                                 out.data(), out.size()),
+                    "jemqolu_plan");
+}
+
+size_t list(const std::string &text, Words &out) {
+    uint8_t *bytes = reinterpret_cast<uint8_t *>(out.data());
+    return accepted(jemqolu_list(bytes_of(text), text.size(), bytes, 4 * out.size()), "jemqolu_list");
+}
+
+Words summary_of(const Words &reads) {
+    Words out(JEMQOLU_SUMMARY_WORDS);
+    out.resize(summarize(reads, out));
+    return out;
+}
+
+Words new_session() {
+    Words session(JEMQOLU_SESSION_WORDS);
+    accepted(jemqolu_session_new(session.data(), session.size()), "jemqolu_session_new");
+    return session;
+}
+
+uint32_t session_read(Words &session, uint32_t extent) {
+    uint32_t sums_read = 0;
+    int64_t answer = jemqolu_session_read(session.data(), session.size(), extent, &sums_read);
+    return static_cast<uint32_t>(accepted(answer, "jemqolu_session_read"));
+}
+
+Words session_summary(const Words &session) {
+    Words out(JEMQOLU_SUMMARY_WORDS);
+    int64_t answer = jemqolu_session_summary(session.data(), session.size(), out.data(), out.size());
+    out.resize(accepted(answer, "jemqolu_session_summary"));
+    return out;
+}

@@ -1,0 +1,68 @@
+// The peer with a hash map and a short Fenwick tree: after every 1,024 reads the marks move, in order, to its front.
+#include "fenwick.hpp"
+#include "peer.hpp"
+#include "words.hpp"
+
+namespace {
+
+constexpr uint32_t FRESH_SLOTS = 1024;
+
+class CompactedEngine {
+  public:
+    explicit CompactedEngine(size_t) : tree_(FRESH_SLOTS), held_(FRESH_SLOTS) { number_.reserve(512); }
+
+    uint32_t read(uint32_t extent) {
+        if (next_ == held_.size()) compact();
+        uint32_t distance = 0;
+        auto [place, cold] = number_.try_emplace(extent, static_cast<uint32_t>(slot_.size()));
+        uint32_t number = place->second;
+        if (cold) {
+            slot_.push_back(next_);
+            extent_.push_back(extent);
+        } else {
+            distance = static_cast<uint32_t>(slot_.size()) - tree_.upto(slot_[number]) + 1;
+            tree_.add(slot_[number], -1u);
+            slot_[number] = next_;
+        }
+        tree_.add(next_, 1);
+        held_[next_] = number;
+        next_ += 1;
+        return distance;
+    }
+
+    std::vector<uint32_t> recent() const {
+        std::vector<uint32_t> extents;
+        for (uint32_t s = next_; s-- > 0;) {
+            if (slot_[held_[s]] == s) extents.push_back(extent_[held_[s]]);
+        }
+        return extents;
+    }
+
+  private:
+    // The marks in order at the front, and so many free slots after them.
+    void compact() {
+        uint32_t live = 0;
+        for (uint32_t s = 0; s < next_; s++) {
+            uint32_t number = held_[s];
+            if (slot_[number] != s) continue;
+            slot_[number] = live;
+            held_[live] = number;
+            live += 1;
+        }
+        next_ = live;
+        held_.resize(live + FRESH_SLOTS);
+        tree_.reset(held_.size(), live);
+    }
+
+    FenwickTree tree_;
+    std::unordered_map<uint32_t, uint32_t> number_; // an extent's number, counted from 0 by first read
+    std::vector<uint32_t> extent_;                  // the extent of a number
+    std::vector<uint32_t> slot_;                    // the slot of a number's last read
+    std::vector<uint32_t> held_;                    // the number that was put into a slot
+    uint32_t next_ = 0;
+};
+
+} // namespace
+
+const Peer compacted_peer = {"Fenwick tree, compacted", summary_words<CompactedEngine>,
+                             distance_words<CompactedEngine>};

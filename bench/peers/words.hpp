@@ -1,0 +1,36 @@
+// The words of a summary and of distances, from an engine that answers one read at a time:
+//   Engine(count)   for a trace of so many reads
+//   read(extent)    the reuse distance, 0 for a cold read
+//   recent()        the extents by last read, the latest first
+#pragma once
+#include <algorithm>
+#include <cstddef>
+#include <cstdint>
+#include <vector>
+
+template <class Engine> size_t summary_words(const uint32_t *reads, size_t count, uint32_t *out) {
+    Engine engine(count);
+    std::vector<uint32_t> first, counts;
+    for (size_t i = 0; i < count; i++) {
+        uint32_t distance = engine.read(reads[i]);
+        if (distance == 0) {
+            first.push_back(reads[i]);
+            counts.push_back(0);
+        } else {
+            counts[distance - 1] += 1;
+        }
+    }
+    std::vector<uint32_t> recent = engine.recent();
+    out[0] = static_cast<uint32_t>(count);
+    out[1] = static_cast<uint32_t>(first.size());
+    uint32_t *end = std::copy(first.begin(), first.end(), out + 2);
+    end = std::copy(recent.begin(), recent.end(), end);
+    end = std::copy(counts.begin(), counts.end(), end);
+    return static_cast<size_t>(end - out);
+}
+
+template <class Engine> size_t distance_words(const uint32_t *reads, size_t count, uint32_t *out) {
+    Engine engine(count);
+    for (size_t i = 0; i < count; i++) out[i] = engine.read(reads[i]);
+    return count;
+}

@@ -1,0 +1,13 @@
+// What the benchmark does.
+#pragma once
+#include <cstddef>
+#include <string>
+
+// Each prints its tables.
+void batch_tables();
+void session_table();
+void join_tables();
+void listing_table(const std::string &sizing, const std::string &peer, const std::string &folder);
+
+// One kind of work alone, for a profiler: so many reads, or so many joins.
+void lone_work(const std::string &kind, size_t units);

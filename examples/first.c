@@ -1,0 +1,83 @@
+/* A first program: two parts of a log summarized and joined, the misses of every cache size, a session read by read, and
+ * refusals. Built and run from the root of the repository, once `rt staticlib capi` has built the library:
+ *   gcc -Wall -Wextra -Iinclude -o target/first examples/first.c target/staticlib/libcapi.a && target/first
+ * It prints what examples/first.txt has. */
+#include <inttypes.h>
+#include <stdio.h>
+#include <stdlib.h>
+
+#include "jemqolu.h"
+
+/* What was asked for; a refusal ends the program. */
+static size_t accepted(int64_t answer, const char *what) {
+    if (answer < 0) {
+        fprintf(stderr, "%s: refused with %" PRId64 "\n", what, -answer);
+        exit(1);
+    }
+    return (size_t)answer;
+}
+
+static void print_words(const char *name, const uint32_t *words, size_t count) {
+    printf("%s:", name);
+    for (size_t i = 0; i < count; i++) printf(" %" PRIu32, words[i]);
+    printf("\n");
+}
+
+/* The misses of each size from 1 to the summary's number of extents, its second word. */
+static void print_misses(const uint32_t *summary, size_t count) {
+    for (uint32_t size = 1; size <= summary[1]; size++) {
+        size_t misses = accepted(jemqolu_misses(summary, count, size), "misses");
+        printf("a cache of %" PRIu32 " misses %zu of %" PRIu32 " reads\n", size, misses, summary[0]);
+    }
+}
+
+/* The same log taken read by read, with a watch on a cache of two extents. */
+static void read_one_by_one(const uint32_t *log, size_t count) {
+    static uint32_t session[JEMQOLU_SESSION_WORDS];
+    uint32_t watch[JEMQOLU_WATCH_WORDS], summary[JEMQOLU_SUMMARY_WORDS], sums_read = 0;
+    double share = 0;
+    accepted(jemqolu_session_new(session, JEMQOLU_SESSION_WORDS), "session");
+    accepted(jemqolu_watch_new(2, watch, JEMQOLU_WATCH_WORDS), "watch");
+    for (size_t i = 0; i < count; i++) {
+        int64_t answer = jemqolu_session_read(session, JEMQOLU_SESSION_WORDS, log[i], &sums_read);
+        uint32_t distance = (uint32_t)accepted(answer, "read");
+        accepted(jemqolu_watch_read(watch, JEMQOLU_WATCH_WORDS, distance), "watch");
+        printf("read %" PRIu32 ": ", log[i]);
+        if (distance == 0) {
+            printf("cold\n");
+        } else {
+            printf("distance %" PRIu32 "\n", distance);
+        }
+    }
+    int64_t words = jemqolu_session_summary(session, JEMQOLU_SESSION_WORDS, summary, JEMQOLU_SUMMARY_WORDS);
+    print_words("summary of the session", summary, accepted(words, "summary"));
+    if (accepted(jemqolu_watch_share(watch, JEMQOLU_WATCH_WORDS, &share), "share") == 1) {
+        printf("a cache of 2 serves %.3f of the reads\n", share);
+    }
+}
+
+/* Calls that are refused: each says why, and changes nothing. */
+static void print_refusals(const uint32_t *summary, size_t count) {
+    static uint32_t many[JEMQOLU_MAX_EXTENTS + 1];
+    uint32_t out[JEMQOLU_SUMMARY_WORDS];
+    for (uint32_t i = 0; i <= JEMQOLU_MAX_EXTENTS; i++) many[i] = i;
+    printf("257 extents: %" PRId64 "\n",
+           jemqolu_summarize(many, JEMQOLU_MAX_EXTENTS + 1, out, JEMQOLU_SUMMARY_WORDS));
+    printf("a summary without its last word: %" PRId64 "\n", jemqolu_misses(summary, count - 1, 2));
+    printf("room for three words: %" PRId64 "\n", jemqolu_join(summary, count, summary, count, out, 3));
+}
+
+int main(void) {
+    const uint32_t log[] = {7, 3, 7, 9, 3, 3, 9};
+    uint32_t a[JEMQOLU_SUMMARY_WORDS], b[JEMQOLU_SUMMARY_WORDS], whole[JEMQOLU_SUMMARY_WORDS];
+    size_t a_len = accepted(jemqolu_summarize(log, 4, a, JEMQOLU_SUMMARY_WORDS), "the first part");
+    size_t b_len = accepted(jemqolu_summarize(log + 4, 3, b, JEMQOLU_SUMMARY_WORDS), "the second part");
+    size_t len = accepted(jemqolu_join(a, a_len, b, b_len, whole, JEMQOLU_SUMMARY_WORDS), "the join");
+    print_words("first part", a, a_len);
+    print_words("second part", b, b_len);
+    print_words("both joined", whole, len);
+    print_misses(whole, len);
+    read_one_by_one(log, 7);
+    print_refusals(whole, len);
+    return 0;
+}

@@ -1,0 +1,87 @@
+#!/usr/bin/env python3
+"""Cuts a log into parts, summarizes them in several processes, and joins them in two groupings.
+
+Prints what comes out, which python/example.txt has as well. Exit status 1 where a grouping differs from the uncut log.
+Run python/build first.
+"""
+import multiprocessing
+import os
+import sys
+
+import jemqolu
+
+LOG = os.path.join(os.path.dirname(os.path.abspath(__file__)), "..", "examples", "skewed.log")
+LENGTHS = [1, 20_000, 0, 35_000, 9_999, 5_000, 30_000]
+SIZES = [0, 1, 16, 64, 128, 200]
+
+
+def reads_of(text):
+    """The extents of a log text, one from each line ` (read n)`."""
+    return [int(line.split()[1].rstrip(")")) for line in text.splitlines() if line.startswith(" (read ")]
+
+
+def parts_of(log):
+    """The log in parts of LENGTHS."""
+    parts, start = [], 0
+    for length in LENGTHS:
+        parts.append(log[start : start + length])
+        start += length
+    return parts
+
+
+def one_after_the_other(summaries):
+    """((a b) c) d .."""
+    joined = summaries[0]
+    for summary in summaries[1:]:
+        joined = jemqolu.join(joined, summary)
+    return joined
+
+
+def by_halves(summaries):
+    """The join of the first half's join, then the second half's."""
+    if len(summaries) == 1:
+        return summaries[0]
+    middle = len(summaries) // 2
+    return jemqolu.join(by_halves(summaries[:middle]), by_halves(summaries[middle:]))
+
+
+def listed_misses(text):
+    """The misses by size that the listing of the log text has."""
+    rows = jemqolu.listing(text).decode("ascii").replace(")", "").splitlines()
+    return {int(row.split()[1]): int(row.split()[2]) for row in rows if row.startswith(" (at ")}
+
+
+def compare(name, words, uncut):
+    """Says whether the words are those of the uncut log's summary."""
+    print("%s: %s" % (name, "word for word the same" if words == uncut else "OTHER WORDS"))
+    return words == uncut
+
+
+def compare_misses(joined, uncut, text):
+    """Says the misses of some sizes, by the joined summary, by the uncut one, and by the listing."""
+    listed, same = listed_misses(text), True
+    for size in SIZES:
+        counts = [jemqolu.misses(joined, size), jemqolu.misses(uncut, size), listed.get(size)]
+        agree = counts[0] == counts[1] and counts[2] in (counts[0], None)
+        print("misses of a cache of %d: %d%s" % (size, counts[0], "" if agree else ", OTHERWISE %r" % counts))
+        same = same and agree
+    return same
+
+
+def main():
+    with open(LOG, encoding="ascii") as file:
+        text = file.read()
+    log = reads_of(text)
+    with multiprocessing.Pool(4) as pool:
+        summaries = pool.map(jemqolu.summarize, parts_of(log))
+    uncut = jemqolu.summarize(log)
+    print("%d reads of %d extents, cut into %d parts" % (uncut[0], uncut[1], len(summaries)))
+    joined = one_after_the_other(summaries)
+    same = compare("joined one after the other", joined, uncut)
+    same = compare("joined by halves", by_halves(summaries), uncut) and same
+    same = compare_misses(joined, uncut, text) and same
+    return 0 if same else 1
+
+
+if __name__ == "__main__":
+    sys.exit(main())
