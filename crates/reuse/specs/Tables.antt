@@ -1,4 +1,4 @@
--- Tables of words: each word falls to one of 1,024 places, by which it is looked up.
+-- Tables of words: each word falls to one of 4,096 places, by which it is looked up.
 use Prim.Native.Nat.{ℕ, suc, _*_, _/_, _%_}
 use mathlib.Core.List.{List, [], _∷_}
 use mathlib.Core.Bool.{Bool, cond}
@@ -9,11 +9,11 @@ use Rattle.reuse.specs.Lists.{mem}
 
 -- the places of a table
 abbrev pub tablePlaces : ℕ
-tablePlaces = 1_024
+tablePlaces = 4_096
 
--- the place of a word: ten binary digits of a product that spreads the multiples of a power of two
+-- the place of a word: twelve binary digits of a product that spreads the multiples of a power of two
 unfoldable pub bucketOf : ℕ → ℕ
-bucketOf x = x * 2_654_435_761 / 4_194_304 % tablePlaces
+bucketOf x = x * 2_654_435_761 / 1_048_576 % tablePlaces
 
 -- the table with these words noted at their places by their numbers, n and so on, a later word over an earlier one
 unfoldable pub hintsFrom : List ℕ → ℕ → List ℕ → List ℕ

@@ -8,13 +8,13 @@ ghost use Rattle.reuse.specs.Lists.{mem, allIn, distinct};
 ghost use Rattle.reuse.specs.Tables.{tablePlaces, bucketOf, hintsOf, standsBy, lookedUp};
 
 // The places of a table.
-pub const PLACES: usize = 1024;
+pub const PLACES: usize = 4096;
 
 // The place that a word falls to.
 fn bucket(x: u32) -> usize
     ensures { λ r. ⌜ (r ≡ bucketOf x) × (r < tablePlaces) ⌝ }
 {
-    (x as u64 * 2654435761 / 4194304 % 1024) as usize
+    (x as u64 * 2654435761 / 1048576 % 4096) as usize
 }
 
 // For each place of a table, which word was the last to fall there, 1 for the first word; 0 where none did.
