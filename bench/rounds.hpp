@@ -15,7 +15,7 @@ struct Contestant {
     bool compared = true;
 };
 
-// Seconds of the quickest and of the slowest round.
+// Seconds of processor time of the quickest and of the slowest round.
 struct Time {
     double least;
     double largest;
