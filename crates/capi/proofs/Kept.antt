@@ -9,6 +9,7 @@ use lib.ListN.{length, drop, length-replicate}
 use borrow.Author.Tests.{le-leb, lt-leb}
 use Rattle.reuse.specs.Limits.{maxExtents, slotCount, sumCount}
 use Rattle.reuse.specs.Rows.{putAt}
+use Rattle.reuse.proofs.Puts.{put-length}
 use Rattle.summary.specs.declared.Written.the-variants.{Words}
 use Rattle.summary.specs.Calls.{Wrote, wrote, refused}
 use Rattle.session.specs.declared.Session.{Session}
@@ -29,7 +30,7 @@ use Rattle.summary.specs.declared.ShareAnswer.the-variants.{Refused as NoShare}
 use Rattle.capi.specs.Answers.{isRead, isCounted}
 use Rattle.capi.specs.Layout.{sessionLength, sessionIn, sessionLaid, watchLength, watchIn, watchLaid}
 use Rattle.capi.specs.Calls.{newSession, readIn, sessionLeft, summaryIn, newWatch, readingAt, noteIn, watchLeft, missesIn, shareIn}
-use Rattle.capi.proofs.Laid.{laid-length}
+use Rattle.capi.proofs.Laid.{laid-length, laid-read}
 
 -- too few words to write to
 pub wrote-short : (w out : List ℕ) → length out < length w → wrote w out ≡ refused 6 out
@@ -52,6 +53,11 @@ fresh-wide = record {
   slots-wide = length-replicate {A = ℕ} slotCount 0;
   sums-wide = length-replicate {A = ℕ} sumCount 0;
 }
+
+-- a watch laid into words is read back
+watch-read : (v : Watch) (w : List ℕ) → watchIn (putAt w 0 (watchLaid v)) ≡ v
+unfolding watchIn watchLaid putAt
+watch-read v w = refl
 
 module _ (w : List ℕ) where
   module _ (few : length w < sessionLength) where
@@ -127,6 +133,20 @@ module _ (w : List ℕ) where
     pub share-all : shareIn w ≡ shareCall (watchIn w)
     unfolding shareIn
     share-all = simp (le-leb watchLength (length w) enough)
+
+-- a session laid into words reads as it does by itself
+pub read-kept : (s : Session) → Wide (s .first) (s .hist) (s .slots) (s .sums) → (w : List ℕ) → sessionLength ≤ length w → (x : ℕ)
+    → readIn (putAt w 0 (sessionLaid s)) x ≡ readOf s x
+read-kept s wide w l x =
+    let e : length (putAt w 0 (sessionLaid s)) ≡ length w = put-length w 0 (sessionLaid s) (omega (arith, l, laid-length s wide)) in
+    read-all (putAt w 0 (sessionLaid s)) (omega (arith, l, e)) x ∙ ap (λ (t : Session). readOf t x) (laid-read s wide w)
+
+-- a watch laid into words is told as it is by itself
+pub note-kept : (v : Watch) (w : List ℕ) → watchLength ≤ length w → (d : ℕ) → noteIn (putAt w 0 (watchLaid v)) d ≡ notedOf v (readingAt d)
+note-kept v w l d =
+    let n : length (watchLaid v) ≡ watchLength = unfold watchLaid in refl in
+    let e : length (putAt w 0 (watchLaid v)) ≡ length w = put-length w 0 (watchLaid v) (omega (arith, l, n)) in
+    note-all (putAt w 0 (watchLaid v)) (omega (arith, l, e)) d ∙ ap (λ (t : Watch). notedOf t (readingAt d)) (watch-read v w)
 
 -- a read that is accepted puts the session's words
 pub left-read : (a : Answer) (s : Session) (w : List ℕ) → isRead a ≡ true → sessionLeft a s w ≡ putAt w 0 (sessionLaid s)
