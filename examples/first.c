@@ -1,5 +1,5 @@
-/* A first program: two parts of a log summarized and joined, the misses of every cache size, a session read by read, and
- * refusals. Built and run from the root of the repository, once `rt staticlib capi` has built the library:
+/* A first program: two parts of a log summarized and joined, the misses of every cache size, a session read by read,
+ * and refusals. Built and run from the root of the repository, once `rt staticlib capi` has built the library:
  *   gcc -Wall -Wextra -Iinclude -o target/first examples/first.c target/staticlib/libcapi.a && target/first
  * It prints what examples/first.txt has. */
 #include <inttypes.h>
