@@ -3,6 +3,7 @@
 #include "peers/peer.hpp"
 #include "tables.hpp"
 #include "tasks.hpp"
+#include <algorithm>
 
 static const size_t READS = 1000000;
 
@@ -35,8 +36,12 @@ static std::vector<Contestant> contestants(const Batch &batch, bool whole_summar
 
 static Row head(const std::string &first) {
     Row cells = {first, "ours"};
-    for (const Peer *peer : all_peers()) cells.push_back(peer->name);
-    cells.insert(cells.end(), {"ours / fastest peer", "fastest peer", "spread: ours, peers"});
+    std::vector<const Peer *> peers = all_peers();
+    for (size_t i = 0; i < peers.size(); i++) {
+        if (i == COMMON_PEERS) cells.push_back("**ours / fastest of these**");
+        cells.push_back(peers[i]->name);
+    }
+    cells.insert(cells.end(), {"ours / fastest of all", "spread: ours, peers"});
     return cells;
 }
 
@@ -46,14 +51,14 @@ static void row(const Batch &batch, bool whole_summary) {
     std::string what = std::string(whole_summary ? "summary, " : "distances, ") + batch.name;
     std::vector<Time> times = timed(what, out_words, contestants(batch, whole_summary));
     double reads = static_cast<double>(batch.reads.size() * batch.calls);
-    Row cells = {batch.name};
-    size_t fastest = 1;
-    for (size_t i = 0; i < times.size(); i++) {
+    Row cells = {batch.name, number(times[0].least / reads * 1e9)};
+    double fastest = 1e9;
+    for (size_t i = 1; i < times.size(); i++) {
+        if (i == 1 + COMMON_PEERS) cells.push_back("**" + number(times[0].least / fastest) + "**");
         cells.push_back(number(times[i].least / reads * 1e9));
-        if (i > 1 && times[i].least < times[fastest].least) fastest = i;
+        fastest = std::min(fastest, times[i].least);
     }
-    cells.push_back(number(times[0].least / times[fastest].least));
-    cells.push_back(all_peers()[fastest - 1]->name);
+    cells.push_back(number(times[0].least / fastest));
     cells.push_back(spread(times));
     print_row(cells);
 }

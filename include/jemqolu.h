@@ -60,9 +60,20 @@ int64_t jemqolu_misses(const uint32_t *words, size_t words_len, uint32_t size);
  * Lent: the summary; one double. Answer: 1, or 0 with `*share` unchanged where there are no reads. Refusal: -5. */
 int64_t jemqolu_share(const uint32_t *words, size_t words_len, uint32_t size, double *share);
 
+/* Texts have one form a line, each line ended by a newline, with one leading space for each bracket that is open; the
+ * closing brackets follow the last inner form. A number has 1 to 10 digits and no leading zero but 0 itself.
+ * A plan is `(seg n)`, the next n reads of the log, or `(join` with two or more plans inside, at most 16, at most 8 joins
+ * deep. A log text is `(trace)`, or `(trace` with `(read n)` forms inside. For example:
+ *   (join          (trace
+ *    (seg 4)        (read 7)
+ *    (join          (read 3)
+ *     (seg 1)       (read 7))
+ *     (seg 2)))
+ */
+
 /* A joining plan carried out on a log: the log's summary, its parts summarized and joined as the plan's text says.
- * Lent: the plan's text; the log; `work`, 1,540 words for each level of joins, which are 0 afterwards; `out`, as many
- * words as the summary has. Answer: the words written. Refusals, in order: -4 for the text's length; the earliest faulty
+ * Lent: the plan's text; the log; `work`, 1,540 words for each join that is open at once where the plan is deepest, which
+ * are 0 afterwards; `out`, as many words as the summary has. Answer: the words written. Refusals, in order: -4 for the text's length; the earliest faulty
  * line's, on one line -1, -2, -4; then -3, -8, -9, -6. */
 int64_t jemqolu_plan(const uint8_t *text, size_t text_len, const uint32_t *log, size_t log_len,
                      uint32_t *work, size_t work_len, uint32_t *out, size_t out_len);

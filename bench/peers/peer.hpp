@@ -17,6 +17,9 @@ extern const Peer linked_stack_peer;
 extern const Peer array_stack_peer;
 extern const Peer tree_peer;
 
+// What a user finds in the books first, COMMON_PEERS of them; then two that are made for few extents.
+const size_t COMMON_PEERS = 3;
+
 inline std::vector<const Peer *> all_peers() {
-    return {&fenwick_peer, &compacted_peer, &linked_stack_peer, &array_stack_peer, &tree_peer};
+    return {&fenwick_peer, &linked_stack_peer, &tree_peer, &compacted_peer, &array_stack_peer};
 }
