@@ -36,7 +36,7 @@ small-if false x y h k = k
 -- few words are written, or none
 small-wrote : (w buffer : List ℕ) → length w ≤ maxReads → Small (wrote w buffer .answer)
 unfolding wrote
-small-wrote w buffer h = small-if (leb (length w) (length buffer)) _ _ (λ _. h) (omega arith)
+small-wrote w buffer h = small-if (leb (length w) (length buffer)) _ _ (λ _. h) tt
 
 -- the summary of a trace
 pub small-trace : (t buffer : List ℕ) → Small (traceCall t buffer .answer)
@@ -45,8 +45,8 @@ small-trace t buffer =
     small-if (leb (length t) maxReads) _ _
     (λ _. small-if (leb (length (firsts t)) maxExtents) _ _
     (λ h. small-wrote (summaryOf t) buffer (omega (arith, leb-true (length (firsts t)) maxExtents h, length-summary t)))
-    (omega arith))
-    (omega arith)
+    tt)
+    tt
 
 -- the join
 pub small-join : (a b buffer : List ℕ) → Small (joinCall a b buffer .answer)
@@ -57,10 +57,10 @@ small-join a b buffer =
     (λ hb. small-if (leb (readsOf a + readsOf b) maxReads) _ _
     (λ _. small-if (leb (length (joinedFirst a b)) maxExtents) _ _
     (λ h. small-wrote (joinOf a b) buffer (omega (arith, leb-true (length (joinedFirst a b)) maxExtents h, join-length a b ha hb)))
-    (omega arith))
-    (omega arith))
-    (omega arith))
-    (omega arith)
+    tt)
+    tt)
+    tt)
+    tt
 
 -- the distances after a prefix
 pub small-after : (prefix t buffer : List ℕ) → Small (afterCall prefix t buffer .answer)
@@ -71,9 +71,9 @@ small-after prefix t buffer =
     (λ h. small-if (leb (length (firsts (firstOf prefix ++ t))) maxExtents) _ _
     (λ _. small-wrote (map wordOf (reuses (recentOf prefix) t)) buffer
     (omega (arith, leb-true (readsOf prefix + length t) maxReads h, length-map (reuses (recentOf prefix) t) wordOf, length-reuses (recentOf prefix) t)))
-    (omega arith))
-    (omega arith))
-    (omega arith)
+    tt)
+    tt)
+    tt
 
 -- by a test, of a plan's answers
 small-ran : (b : Bool) (x y : Ran) → (b ≡ true → Small (x .answer)) → Small (y .answer) → Small (cond b x y .answer)
@@ -89,15 +89,15 @@ small-plan t log work out =
     (λ _. small-ran (leb (length (firsts log)) maxExtents) _ _
     (λ h. small-ran (leb (workWords t) (length work) && leb (length (summaryOf log)) (length out)) _ _
     (λ _. omega (arith, leb-true (length (firsts log)) maxExtents h, length-summary log))
-    (omega arith))
-    (omega arith))
-    (omega arith))
-    (omega arith)
+    tt)
+    tt)
+    tt)
+    tt
 
 -- by a plan text's answer
 small-by : (p : Read Plan) (log work out : List ℕ) → Small (runBy p log work out .answer)
 small-by (got t) log work out = small-plan t log work out
-small-by (faulty line n) log work out = omega arith
+small-by (faulty line n) log work out = tt
 
 -- a plan text on a log
 pub small-run : (text log work out : List ℕ) → Small (runCall text log work out .answer)
@@ -110,4 +110,4 @@ unfolding summaryCall
 small-summary s buffer wide =
     small-if (sound s) _ _
     (λ h. let k = rows-of s wide h in small-wrote (sessionWords s) buffer (omega (arith, length-session s k, kept-few s k)))
-    (omega arith)
+    tt

@@ -73,4 +73,4 @@ noted (NotCounted n) = negative n
 -- a count of words that a signed number holds
 abbrev pub Small : Written → Type 0
 Small (Words n) = n ≤ maxReads
-Small (Refused n) = 0 ≤ 0
+Small (Refused n) = Unit
