@@ -78,14 +78,18 @@ shared-slice-read-next c = search needs
 returns : tie.Need-returns
 unfolding sessionIn part
 returns c =
-    let h = c .before .before .before .before .before .before .before .before .before .before .before .before .before .before .before .before .before .before .before .pre in
-    let w = c .before .before .before .before .before .before .before .before .before .before .before .before .before .before .before .before .before .before .before .args .words .now in
+    let p = c .before .before .before in
+    let q = p .before .before .before .before in
+    let r = q .before .before .before .before in
+    let s = r .before .before .before .before in
+    let a = s .before .before .before .before in
+    let w = a .args .words .now in
     λ i. record {
       reads = getD w 0 0;
-      first = (c .before .before .before .before .before .before .before .before .before .before .before .before .before .before .before .put .ensures ∙ placed-whole _ _ (part-length w firstPlace maxExtents (omega (arith, h)))) i;
-      hist = (c .before .before .before .before .before .before .before .before .before .before .before .put2 .ensures ∙ placed-whole _ _ (part-length w histPlace maxExtents (omega (arith, h)))) i;
-      slots = (c .before .before .before .before .before .before .before .put3 .ensures ∙ placed-whole _ _ (part-length w slotsPlace slotCount (omega (arith, h)))) i;
-      sums = (c .before .before .before .put4 .ensures ∙ placed-whole _ _ (part-length w sumsPlace sumCount (omega (arith, h)))) i;
+      first = (s .put .ensures ∙ placed-whole _ _ (part-length w firstPlace maxExtents (omega (arith, a .pre)))) i;
+      hist = (r .put2 .ensures ∙ placed-whole _ _ (part-length w histPlace maxExtents (omega (arith, a .pre)))) i;
+      slots = (q .put3 .ensures ∙ placed-whole _ _ (part-length w slotsPlace slotCount (omega (arith, a .pre)))) i;
+      sums = (p .put4 .ensures ∙ placed-whole _ _ (part-length w sumsPlace sumCount (omega (arith, a .pre)))) i;
       next = getD w nextPlace 0;
     }
 
