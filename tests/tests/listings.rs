@@ -129,6 +129,24 @@ fn numbers_of_extents() {
 }
 
 #[test]
+fn every_length_and_every_number_of_extents() {
+    let mut tally = Tally::new("listings of every length");
+    let mut random = Random::new(136);
+    let few = made::extents(&mut random, 7);
+    let trace = made::trace_over(&mut random, &few, 1030);
+    for len in 0..=trace.len() {
+        let text = logs::text(&trace[..len]);
+        tally.same(calls::list(&text, 8192), logs::list(&text), &(&trace, len));
+    }
+    for count in 0..=MAX_EXTENTS {
+        let extents = made::extents(&mut random, count);
+        let text = logs::text(&[extents.clone(), random.shuffled(&extents)].concat());
+        compare(&mut tally, &text);
+    }
+    tally.at_least(3000);
+}
+
+#[test]
 fn at_the_limit_of_extents() {
     let (mut tally, mut seen) = (Tally::new("log texts at 256 and 257 extents"), Seen::default());
     let mut random = Random::new(134);

@@ -1,7 +1,7 @@
 //! Joining plans carried out on logs.
 
 use jemqolu_tests::plain::plans::{self, Carried, Plan, LEVEL_WORDS, MAX_BYTES, MAX_DEPTH, MAX_PARTS};
-use jemqolu_tests::plain::{summary, MAX_EXTENTS, MAX_READS};
+use jemqolu_tests::plain::{summary, trace, MAX_EXTENTS, MAX_READS};
 use jemqolu_tests::random::Random;
 use jemqolu_tests::tally::Tally;
 use jemqolu_tests::{calls, made, refusal};
@@ -71,6 +71,24 @@ fn all_small_plans() {
 }
 
 #[test]
+fn every_length_to_1100() {
+    let mut tally = Tally::new("plans of logs of every length");
+    let mut random = Random::new(115);
+    let extents = made::extents(&mut random, 6);
+    let log = made::trace_over(&mut random, &extents, 1100);
+    let distances = trace::distances(&log);
+    for len in 0..=log.len() {
+        let words = summary::with_distances(&log[..len], &distances[..len]);
+        let parts = [Plan::Seg(len as u64 / 3), Plan::Seg(len as u64 - len as u64 / 3)];
+        let got = calls::plan(&Plan::Seg(len as u64).text(), &log[..len], 1, 20);
+        tally.same(got, Ok(Carried { words: words.clone(), cleared: 0 }), &len);
+        let got = calls::plan(&Plan::Join(parts.to_vec()).text(), &log[..len], LEVEL_WORDS + 1, 20);
+        tally.same(got, Ok(Carried { words, cleared: LEVEL_WORDS }), &len);
+    }
+    tally.at_least(2200);
+}
+
+#[test]
 fn segs_that_do_not_add_up() {
     let mut tally = Tally::new("plans whose segs do not add up to the log");
     let mut random = Random::new(112);
@@ -84,9 +102,13 @@ fn segs_that_do_not_add_up() {
         compare(&mut tally, &plan.text(), &log);
     }
     let many = Plan::Join(vec![Plan::Seg(MAX_READS); MAX_PARTS]);
-    let more = Plan::Join(vec![many; MAX_PARTS]);
-    compare(&mut tally, &Plan::Join(vec![more.clone(); MAX_PARTS]).text(), &[]);
-    compare(&mut tally, &Plan::Join(vec![more; MAX_PARTS]).text(), &[1, 2, 3]);
+    let more = Plan::Join(vec![many.clone(); MAX_PARTS]);
+    let most = Plan::Join(vec![more.clone(); 12]);
+    for plan in [many, more, most] {
+        for log in [&[][..], &[1, 2, 3]] {
+            tally.same(calls::plan(&plan.text(), log, 3 * LEVEL_WORDS, 770), Err(refusal::SEGS), &(&plan, log));
+        }
+    }
     tally.at_least(2000);
 }
 
@@ -200,6 +222,7 @@ fn refusals_in_order() {
     assert_eq!(plan(b"(seg 9999999)x\n"), Err(refusal::LINE));
     assert_eq!(plan(b"(seg 1048577)\n"), Err(refusal::NUMBER));
     assert_eq!(plan(b"(seg 1048576)\n"), Err(refusal::SEGS));
+    assert_eq!(plan(b"(join\n (seg 1048576)\n (seg 1))\n"), Err(refusal::SEGS));
     assert_eq!(plan(b"(seg 1000)\n"), Err(refusal::EXTENTS));
     assert_eq!(calls::plan(b"(seg 256)\n", &long[..256], 0, 769), Err(refusal::ROOM));
     let sixteen = |last: &str| format!("(join\n{}{last}\n", " (seg 0)\n".repeat(16)).into_bytes();
