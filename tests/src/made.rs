@@ -37,8 +37,8 @@ fn numbered(random: &mut Random, rule: usize, place: usize) -> u32 {
     }
 }
 
-/// So many different extents: small, spread, multiples of 4,096 or of 1,024, pairs that agree modulo 4,096, or from both
-/// ends of the numbers.
+/// So many different extents: small, spread, multiples of 4,096 or of 1,024, pairs that agree modulo 4,096, or from
+/// both ends of the numbers.
 pub fn extents(random: &mut Random, count: usize) -> Vec<u32> {
     let rule = random.below(6);
     let mut seen = HashSet::new();
