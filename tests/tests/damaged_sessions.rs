@@ -17,7 +17,7 @@ struct Seen {
 fn compare(tally: &mut Tally, seen: &mut Seen, words: &[u32], extent: u32) {
     let (mut got, mut wanted) = (words.to_vec(), words.to_vec());
     let answer = session::read(&mut wanted, extent);
-    let context = (answer, extent, changed_words(words));
+    let context = (answer, extent, nonzero(words));
     tally.same(calls::session_read(&mut got, extent), answer, &context);
     tally.same(got == wanted, true, &context);
     let summary = session::summary(words);
@@ -30,7 +30,7 @@ fn compare(tally: &mut Tally, seen: &mut Seen, words: &[u32], extent: u32) {
 }
 
 /// The words that are not 0, with their places.
-fn changed_words(words: &[u32]) -> Vec<(usize, u32)> {
+fn nonzero(words: &[u32]) -> Vec<(usize, u32)> {
     words.iter().copied().enumerate().filter(|(_, word)| *word != 0).collect()
 }
 
@@ -60,14 +60,12 @@ fn bases() -> Vec<Vec<u32>> {
     bases
 }
 
-/// What a word may be changed to.
-fn changes(random: &mut Random, words: &[u32], place: usize) -> [u32; 8] {
-    let word = words[place];
-    let bit = 1 << random.below(32);
-    let extent = random.of(&words[FIRSTS]);
-    let near = [word ^ 1, word.wrapping_sub(1), word ^ bit, u32::MAX];
-    let far = [extent, extent ^ 4096, word.wrapping_add(1 << 10), word.wrapping_add(1 << 12)];
-    [near, far].concat().try_into().expect("eight changes")
+/// What a word may be changed to: something near it, or another number that could stand there.
+fn change_of(random: &mut Random, words: &[u32], place: usize) -> [u32; 2] {
+    let (word, extent, bit) = (words[place], random.of(&words[FIRSTS]), 1 << random.below(32));
+    let near = random.of(&[word ^ 1, word.wrapping_sub(1), word ^ bit, u32::MAX]);
+    let other = random.of(&[extent, extent ^ 4096, word.wrapping_add(1 << 10), word.wrapping_add(1 << 12)]);
+    [near, other]
 }
 
 #[test]
@@ -78,8 +76,7 @@ fn each_word_changed() {
         let extent = random.of(&base[FIRSTS]);
         compare(&mut tally, &mut seen, &base, extent);
         for place in 0..WORDS {
-            let changes = changes(&mut random, &base, place);
-            for change in [changes[random.below(4)], changes[4 + random.below(4)]] {
+            for change in change_of(&mut random, &base, place) {
                 let mut words = base.clone();
                 words[place] = change;
                 compare(&mut tally, &mut seen, &words, extent);
@@ -105,7 +102,7 @@ fn lengths_around_a_session() {
     tally.at_least(330);
 }
 
-/// A change of two or more words of a session, by one of many rules.
+/// Changes words of a session by one of twelve rules.
 fn change(random: &mut Random, words: &mut [u32], rule: usize) {
     let (one, other) = (random.below(SLOTS), random.below(SLOTS));
     let (first, second) = (FIRSTS.start + one / 2, FIRSTS.start + other / 2);

@@ -40,19 +40,19 @@ fn plans_of_all_depths() {
     tally.at_least(4000);
 }
 
-/// All plans of at most so many segs and this depth, each seg of one or two reads.
-fn small_plans(segs: usize, depth: usize) -> Vec<Plan> {
+/// All plans of up to this depth whose segs are of 0, 1 or 2 reads, and whose joins have two parts, the innermost ones
+/// two or three.
+fn small_plans(depth: usize) -> Vec<Plan> {
     if depth == 0 {
-        return vec![Plan::Seg(1), Plan::Seg(2)];
+        return [0, 1, 2].map(Plan::Seg).to_vec();
     }
-    let inner = small_plans(segs - 1, depth - 1);
+    let inner = small_plans(depth - 1);
     let mut all = inner.clone();
     for one in &inner {
         for other in &inner {
             all.push(Plan::Join(vec![one.clone(), other.clone()]));
-            if segs > 2 && depth == 1 {
-                all.push(Plan::Join(vec![one.clone(), other.clone(), one.clone()]));
-            }
+            let thirds = if depth == 1 { inner.as_slice() } else { &[] };
+            all.extend(thirds.iter().map(|third| Plan::Join(vec![one.clone(), other.clone(), third.clone()])));
         }
     }
     all
@@ -61,13 +61,11 @@ fn small_plans(segs: usize, depth: usize) -> Vec<Plan> {
 #[test]
 fn all_small_plans() {
     let mut tally = Tally::new("all small plans");
-    for plan in small_plans(4, 2).into_iter().chain(small_plans(2, 1)) {
-        let log: Vec<u32> = [7, 3, 7, 9, 3, 3, 9, 1, 1, 7, 3, 5].into_iter().take(plan.reads() as usize).collect();
-        if plan.reads() <= 12 {
-            compare(&mut tally, &plan.text(), &log);
-        }
+    let log = [7, 3, 7, 9, 3, 3, 9, 1, 1, 7, 3, 5];
+    for plan in small_plans(2) {
+        compare(&mut tally, &plan.text(), &log[..plan.reads() as usize]);
     }
-    tally.at_least(800);
+    tally.at_least(12_000);
 }
 
 #[test]
