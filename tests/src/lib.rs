@@ -1,4 +1,4 @@
-//! The library as C calls it, beside a plain implementation of the same definitions, and what the tests compare them on.
+//! The library as C calls it, a plain implementation of the same definitions, and the inputs that both are given.
 
 pub mod calls;
 pub mod ffi;

@@ -23,27 +23,24 @@ pub fn all_traces(longest: usize, extents: &[u32]) -> Vec<Vec<u32>> {
     all
 }
 
-/// The number of the extent at a place of a list, by one of five rules.
+/// The number of the extent at a place of a list, by one of six rules.
 fn numbered(random: &mut Random, rule: usize, place: usize) -> u32 {
-    let half = place as u32 / 2;
+    let (half, odd) = (place as u32 / 2, place % 2 == 1);
     match rule {
         0 => place as u32,
         1 => random.word(),
         2 => random.below(1 << 20) as u32 * 4096,
         3 => random.below(1 << 22) as u32 * 1024,
-        _ => {
-            if place % 2 == 0 {
-                half
-            } else {
-                u32::MAX - half
-            }
-        }
+        4 => random.below(1 << 20) as u32 * 4096 + half,
+        _ if odd => u32::MAX - half,
+        _ => half,
     }
 }
 
-/// So many different extents: small, spread, multiples of 4,096 or of 1,024, or from both ends of the numbers.
+/// So many different extents: small, spread, multiples of 4,096 or of 1,024, pairs that agree modulo 4,096, or from
+/// both ends of the numbers.
 pub fn extents(random: &mut Random, count: usize) -> Vec<u32> {
-    let rule = random.below(5);
+    let rule = random.below(6);
     let mut seen = HashSet::new();
     let mut list = Vec::new();
     while list.len() < count {

@@ -147,7 +147,7 @@ fn a_read_is_a_hit_where_its_distance_is_within_the_size() {
 }
 
 #[test]
-fn joins_of_equal_parts_in_every_order_of_brackets() {
+fn many_groupings_of_eight_parts() {
     let mut tally = Tally::new("groupings of eight parts");
     let mut random = Random::new(75);
     for _ in 0..60 {

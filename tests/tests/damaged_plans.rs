@@ -136,7 +136,8 @@ fn lines_in_any_order() {
 fn numbers_of_segs() {
     let (mut tally, mut seen) = (Tally::new("numbers of segs"), Seen::default());
     let numbers = "|0|1|2|3|00|01|10|1048575|1048576|1048577|4294967295|4294967296|4294967299|9999999999|0000000003|\
-                   00000000003|10000000000|99999999999|18446744073709551619|+3|-3| 3|3 |3.|3a|a|0x3|3)|)3|(3|3 3|\u{0663}";
+                   00000000003|10000000000|99999999999|18446744073709551619|+3|-3| 3|3 |3.|3a|a|0x3|\
+                   3)|)3|(3|3 3|\u{0663}";
     for number in numbers.split('|') {
         for text in [format!("(seg {number})\n"), format!("(join\n (seg {number})\n (seg 0))\n")] {
             for reads in [0, 1, 3] {

@@ -17,7 +17,7 @@ struct Seen {
 fn compare(tally: &mut Tally, seen: &mut Seen, words: &[u32], extent: u32) {
     let (mut got, mut wanted) = (words.to_vec(), words.to_vec());
     let answer = session::read(&mut wanted, extent);
-    let context = (answer, extent, changed_words(words));
+    let context = (answer, extent, nonzero(words));
     tally.same(calls::session_read(&mut got, extent), answer, &context);
     tally.same(got == wanted, true, &context);
     let summary = session::summary(words);
@@ -30,7 +30,7 @@ fn compare(tally: &mut Tally, seen: &mut Seen, words: &[u32], extent: u32) {
 }
 
 /// The words that are not 0, with their places.
-fn changed_words(words: &[u32]) -> Vec<(usize, u32)> {
+fn nonzero(words: &[u32]) -> Vec<(usize, u32)> {
     words.iter().copied().enumerate().filter(|(_, word)| *word != 0).collect()
 }
 
@@ -53,16 +53,19 @@ fn bases() -> Vec<Vec<u32>> {
         let extents = made::extents(&mut random, count);
         bases.push(made::session_over(&mut random, &extents, warm, next));
     }
-    let blocks: Vec<u32> = (0..200).map(|place| place * 1024).collect();
-    bases.push(made::session_over(&mut random, &blocks, MAX_READS as usize - 200, 400));
+    for (apart, next) in [(1024, 400), (4096, 256)] {
+        let extents: Vec<u32> = (0..256).map(|place| place * apart).collect();
+        bases.push(made::session_over(&mut random, &extents, MAX_READS as usize - 256, next));
+    }
     bases
 }
 
-/// What a word may be changed to.
-fn changes(random: &mut Random, words: &[u32], place: usize) -> [u32; 6] {
-    let word = words[place];
-    let extent = random.of(&words[FIRSTS]);
-    [word ^ 1, word.wrapping_sub(1), word ^ (1 << (random.below(32))), u32::MAX, extent, word.wrapping_add(1 << 10)]
+/// What a word may be changed to: something near it, or another number that could stand there.
+fn change_of(random: &mut Random, words: &[u32], place: usize) -> [u32; 2] {
+    let (word, extent, bit) = (words[place], random.of(&words[FIRSTS]), 1 << random.below(32));
+    let near = random.of(&[word ^ 1, word.wrapping_sub(1), word ^ bit, u32::MAX]);
+    let other = random.of(&[extent, extent ^ 4096, word.wrapping_add(1 << 10), word.wrapping_add(1 << 12)]);
+    [near, other]
 }
 
 #[test]
@@ -73,8 +76,7 @@ fn each_word_changed() {
         let extent = random.of(&base[FIRSTS]);
         compare(&mut tally, &mut seen, &base, extent);
         for place in 0..WORDS {
-            let changes = changes(&mut random, &base, place);
-            for change in [changes[random.below(3)], changes[3 + random.below(3)]] {
+            for change in change_of(&mut random, &base, place) {
                 let mut words = base.clone();
                 words[place] = change;
                 compare(&mut tally, &mut seen, &words, extent);
@@ -96,11 +98,11 @@ fn lengths_around_a_session() {
             compare(&mut tally, &mut seen, &[&base, past].concat(), 7);
         }
     }
-    assert_eq!((seen.sound, seen.refused), (50, 60));
+    assert_eq!((seen.sound, seen.refused), (55, 66));
     tally.at_least(330);
 }
 
-/// A change of two or more words of a session, by one of many rules.
+/// Changes words of a session by one of twelve rules.
 fn change(random: &mut Random, words: &mut [u32], rule: usize) {
     let (one, other) = (random.below(SLOTS), random.below(SLOTS));
     let (first, second) = (FIRSTS.start + one / 2, FIRSTS.start + other / 2);
@@ -205,6 +207,31 @@ fn each_clause_broken_alone() {
     compare(&mut tally, &mut seen, &counted_above, 10);
     assert_eq!((seen.sound, seen.refused), (4, 14));
     tally.at_least(54);
+}
+
+/// Adds to a sum and to every sum above it, modulo 2^32.
+fn add_above(words: &mut [u32], place: usize, number: u32) {
+    let mut place = place;
+    while place < SUMS.len() {
+        words[SUMS][place] = words[SUMS][place].wrapping_add(number);
+        place = SLOTS + place / 2;
+    }
+}
+
+#[test]
+fn each_sum_changed_with_all_above_it() {
+    let (mut tally, mut seen) = (Tally::new("sessions with one sum wrong and all above it right"), Seen::default());
+    let mut random = Random::new(94);
+    for base in bases().iter().take(6) {
+        for place in 0..SUMS.len() {
+            let mut words = base.clone();
+            let number = random.of(&[1, 2, u32::MAX, 1 << 31]);
+            add_above(&mut words, place, number);
+            compare(&mut tally, &mut seen, &words, words[FIRSTS.start]);
+        }
+    }
+    assert!(seen.sound == 0 && seen.refused == 6 * 1023, "{} sound, {} refused", seen.sound, seen.refused);
+    tally.at_least(18_000);
 }
 
 #[test]

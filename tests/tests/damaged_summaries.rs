@@ -33,6 +33,8 @@ fn bases() -> Vec<Vec<u32>> {
     let mut bases =
         vec![vec![0, 0], summary::of(&[4]), summary::of(&[7, 3, 7, 9, 3, 3, 9]), summary::of(&[0, 1, 0, 2, 2])];
     bases.extend((0..8).map(|_| made::summary(&mut random, 12)));
+    let apart: Vec<u32> = (0..60).map(|place| place * 4096).collect();
+    bases.push(made::summary_over(&mut random, &apart, 30));
     bases.push(summary::of(&(0..256).chain(100..200).collect::<Vec<u32>>()));
     let extents = made::extents(&mut random, 256);
     bases.push(made::summary_over(&mut random, &extents, MAX_READS as usize - 256));
@@ -72,7 +74,7 @@ fn two_words_changed() {
     let mut random = Random::new(63);
     let bases = bases();
     for round in 0..12_000 {
-        let mut words = bases[round % 12].clone();
+        let mut words = bases[round % 13].clone();
         let (one, other) = (random.below(words.len()), random.below(words.len()));
         match random.below(4) {
             0 => words.swap(one, other),

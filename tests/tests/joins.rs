@@ -94,6 +94,21 @@ fn words_that_no_trace_has() {
 }
 
 #[test]
+fn every_number_of_extents() {
+    let mut tally = Tally::new("joins of every number of extents");
+    let mut random = Random::new(37);
+    for count in 0..=MAX_EXTENTS {
+        let pool = made::extents(&mut random, MAX_EXTENTS);
+        let a = made::summary_over(&mut random, &pool[..count], count);
+        let shared = random.below(count + 1);
+        let b = made::summary_over(&mut random, &pool[count - shared..], count);
+        tally.same(calls::join(&a, &b, 770), summary::join(&a, &b), &(&a, &b));
+        tally.same(calls::join(&a, &a, 770), summary::join(&a, &a), &a);
+    }
+    tally.at_least(514);
+}
+
+#[test]
 fn at_the_limit_of_extents() {
     let mut tally = Tally::new("joins at 256 and 257 extents");
     let mut random = Random::new(33);

@@ -116,8 +116,9 @@ fn all_texts_of_few_lines() {
 #[test]
 fn numbers_of_extents() {
     let (mut tally, mut seen) = (Tally::new("numbers of extents"), Seen::default());
-    let numbers = "|0|1|00|01|10|4294967294|4294967295|4294967296|4294967297|8589934592|9999999999|0000000003|00000000003|\
-                   10000000000|42949672950|99999999999|18446744073709551619|+3|-3| 3|3 |3.|3a|a|0x3|3)|)3|(3|3 3|\u{0663}";
+    let numbers = "|0|1|00|01|10|4294967294|4294967295|4294967296|4294967297|8589934592|9999999999|0000000003|\
+                   00000000003|10000000000|42949672950|99999999999|18446744073709551619|+3|-3| 3|3 |3.|3a|a|0x3|\
+                   3)|)3|(3|3 3|\u{0663}";
     for number in numbers.split('|') {
         for end in ["))\n", ")\n (read 1))\n", ")))\n", "))", ")\n"] {
             compare_once(&mut tally, &mut seen, format!("(trace\n (read {number}{end}").as_bytes());
@@ -126,6 +127,24 @@ fn numbers_of_extents() {
     }
     assert!(seen[0] >= 20 && seen[1] >= 200 && seen[2] >= 20, "{seen:?}");
     tally.at_least(300);
+}
+
+#[test]
+fn every_length_and_every_number_of_extents() {
+    let mut tally = Tally::new("listings of every length");
+    let mut random = Random::new(136);
+    let few = made::extents(&mut random, 7);
+    let trace = made::trace_over(&mut random, &few, 1030);
+    for len in 0..=trace.len() {
+        let text = logs::text(&trace[..len]);
+        tally.same(calls::list(&text, 8192), logs::list(&text), &(&trace, len));
+    }
+    for count in 0..=MAX_EXTENTS {
+        let extents = made::extents(&mut random, count);
+        let text = logs::text(&[extents.clone(), random.shuffled(&extents)].concat());
+        compare(&mut tally, &text);
+    }
+    tally.at_least(3000);
 }
 
 #[test]

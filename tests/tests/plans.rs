@@ -1,7 +1,7 @@
 //! Joining plans carried out on logs.
 
 use jemqolu_tests::plain::plans::{self, Carried, Plan, LEVEL_WORDS, MAX_BYTES, MAX_DEPTH, MAX_PARTS};
-use jemqolu_tests::plain::{summary, MAX_EXTENTS, MAX_READS};
+use jemqolu_tests::plain::{summary, trace, MAX_EXTENTS, MAX_READS};
 use jemqolu_tests::random::Random;
 use jemqolu_tests::tally::Tally;
 use jemqolu_tests::{calls, made, refusal};
@@ -40,19 +40,19 @@ fn plans_of_all_depths() {
     tally.at_least(4000);
 }
 
-/// All plans of at most so many segs and this depth, each seg of one or two reads.
-fn small_plans(segs: usize, depth: usize) -> Vec<Plan> {
+/// All plans of up to this depth whose segs are of 0, 1 or 2 reads, and whose joins have two parts, the innermost ones
+/// two or three.
+fn small_plans(depth: usize) -> Vec<Plan> {
     if depth == 0 {
-        return vec![Plan::Seg(1), Plan::Seg(2)];
+        return [0, 1, 2].map(Plan::Seg).to_vec();
     }
-    let inner = small_plans(segs - 1, depth - 1);
+    let inner = small_plans(depth - 1);
     let mut all = inner.clone();
     for one in &inner {
         for other in &inner {
             all.push(Plan::Join(vec![one.clone(), other.clone()]));
-            if segs > 2 && depth == 1 {
-                all.push(Plan::Join(vec![one.clone(), other.clone(), one.clone()]));
-            }
+            let thirds = if depth == 1 { inner.as_slice() } else { &[] };
+            all.extend(thirds.iter().map(|third| Plan::Join(vec![one.clone(), other.clone(), third.clone()])));
         }
     }
     all
@@ -61,13 +61,29 @@ fn small_plans(segs: usize, depth: usize) -> Vec<Plan> {
 #[test]
 fn all_small_plans() {
     let mut tally = Tally::new("all small plans");
-    for plan in small_plans(4, 2).into_iter().chain(small_plans(2, 1)) {
-        let log: Vec<u32> = [7, 3, 7, 9, 3, 3, 9, 1, 1, 7, 3, 5].into_iter().take(plan.reads() as usize).collect();
-        if plan.reads() <= 12 {
-            compare(&mut tally, &plan.text(), &log);
-        }
+    let log = [7, 3, 7, 9, 3, 3, 9, 1, 1, 7, 3, 5];
+    for plan in small_plans(2) {
+        compare(&mut tally, &plan.text(), &log[..plan.reads() as usize]);
     }
-    tally.at_least(800);
+    tally.at_least(12_000);
+}
+
+#[test]
+fn every_length_to_1100() {
+    let mut tally = Tally::new("plans of logs of every length");
+    let mut random = Random::new(115);
+    let extents = made::extents(&mut random, 6);
+    let log = made::trace_over(&mut random, &extents, 1100);
+    let distances = trace::distances(&log);
+    for len in 0..=log.len() {
+        let words = summary::with_distances(&log[..len], &distances[..len]);
+        let parts = [Plan::Seg(len as u64 / 3), Plan::Seg(len as u64 - len as u64 / 3)];
+        let got = calls::plan(&Plan::Seg(len as u64).text(), &log[..len], 1, 20);
+        tally.same(got, Ok(Carried { words: words.clone(), cleared: 0 }), &len);
+        let got = calls::plan(&Plan::Join(parts.to_vec()).text(), &log[..len], LEVEL_WORDS + 1, 20);
+        tally.same(got, Ok(Carried { words, cleared: LEVEL_WORDS }), &len);
+    }
+    tally.at_least(2200);
 }
 
 #[test]
@@ -84,9 +100,13 @@ fn segs_that_do_not_add_up() {
         compare(&mut tally, &plan.text(), &log);
     }
     let many = Plan::Join(vec![Plan::Seg(MAX_READS); MAX_PARTS]);
-    let more = Plan::Join(vec![many; MAX_PARTS]);
-    compare(&mut tally, &Plan::Join(vec![more.clone(); MAX_PARTS]).text(), &[]);
-    compare(&mut tally, &Plan::Join(vec![more; MAX_PARTS]).text(), &[1, 2, 3]);
+    let more = Plan::Join(vec![many.clone(); MAX_PARTS]);
+    let most = Plan::Join(vec![more.clone(); 12]);
+    for plan in [many, more, most] {
+        for log in [&[][..], &[1, 2, 3]] {
+            tally.same(calls::plan(&plan.text(), log, 3 * LEVEL_WORDS, 770), Err(refusal::SEGS), &(&plan, log));
+        }
+    }
     tally.at_least(2000);
 }
 
@@ -200,6 +220,7 @@ fn refusals_in_order() {
     assert_eq!(plan(b"(seg 9999999)x\n"), Err(refusal::LINE));
     assert_eq!(plan(b"(seg 1048577)\n"), Err(refusal::NUMBER));
     assert_eq!(plan(b"(seg 1048576)\n"), Err(refusal::SEGS));
+    assert_eq!(plan(b"(join\n (seg 1048576)\n (seg 1))\n"), Err(refusal::SEGS));
     assert_eq!(plan(b"(seg 1000)\n"), Err(refusal::EXTENTS));
     assert_eq!(calls::plan(b"(seg 256)\n", &long[..256], 0, 769), Err(refusal::ROOM));
     let sixteen = |last: &str| format!("(join\n{}{last}\n", " (seg 0)\n".repeat(16)).into_bytes();

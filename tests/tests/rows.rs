@@ -1,6 +1,7 @@
 //! The requirements' own examples: every row of 'Sessions to try', the sample texts, and the four quiet wrong joins.
 
 use jemqolu_tests::plain::session::{Reading, READS, WORDS};
+use jemqolu_tests::random::Random;
 use jemqolu_tests::{calls, made, refusal, Answer};
 
 const SEVEN: [u32; 7] = [7, 3, 7, 9, 3, 3, 9];
@@ -69,7 +70,7 @@ fn the_256_extents_and_another() {
 
 #[test]
 fn read_1048576_and_the_next() {
-    let mut random = jemqolu_tests::random::Random::new(1);
+    let mut random = Random::new(1);
     let mut session = made::session_over(&mut random, &[5], 1_048_574, 1);
     assert_eq!(session[READS], 1_048_575);
     assert_eq!(calls::session_read(&mut session, 5), reading(1, 9));

@@ -29,15 +29,42 @@ fn all_short_traces() {
 fn random_traces() {
     let mut tally = Tally::new("summaries of random traces");
     let mut random = Random::new(21);
-    for _ in 0..1500 {
+    for _ in 0..3000 {
         let trace = made::trace(&mut random, 300, 40);
         compare(&mut tally, &trace);
     }
-    for _ in 0..150 {
+    for _ in 0..250 {
         let trace = made::trace(&mut random, 4000, MAX_EXTENTS);
         compare(&mut tally, &trace);
     }
-    tally.at_least(10_000);
+    tally.at_least(20_000);
+}
+
+#[test]
+fn every_length_to_1100() {
+    let mut tally = Tally::new("summaries of every length");
+    let mut random = Random::new(24);
+    let extents = made::extents(&mut random, 9);
+    let trace = made::trace_over(&mut random, &extents, 1100);
+    let distances = trace::distances(&trace);
+    for len in 0..=trace.len() {
+        let wanted = summary::with_distances(&trace[..len], &distances[..len]);
+        tally.same(calls::summarize(&trace[..len], wanted.len()), Ok(wanted), &(&trace, len));
+    }
+    tally.at_least(1101);
+}
+
+#[test]
+fn every_number_of_extents() {
+    let mut tally = Tally::new("summaries of every number of extents");
+    let mut random = Random::new(25);
+    for count in 0..=MAX_EXTENTS {
+        let extents = made::extents(&mut random, count);
+        let backwards: Vec<u32> = extents.iter().rev().copied().collect();
+        compare(&mut tally, &[extents.clone(), backwards].concat());
+        compare(&mut tally, &[extents.clone(), extents].concat());
+    }
+    tally.at_least(3000);
 }
 
 #[test]
