@@ -5,7 +5,8 @@
  * the latest first) and v words H (the word for d counts the reads of reuse distance d): 2 + 3 v words in all.
  *
  * Every call takes any input. A slice is a pointer and then how many elements it has; a length of 0 may come with any
- * pointer that is not NULL, and no pointer may be NULL. What a call writes to must overlap nothing else that it is lent.
+ * pointer that is not NULL. No pointer may be NULL, each is aligned as its type asks, and what a call writes to must
+ * overlap nothing else that it is lent.
  *
  * An answer of 0 or more is what was asked for. A negative answer is a refusal, the negative of its number, and leaves
  * everything lent as it was:
@@ -16,8 +17,8 @@
  *   -5  words that are not a well-formed summary
  *   -6  fewer words or bytes lent than the answer needs
  *   -7  words that are not a sound session or watch, too few of them among these
- *   -8  more than 1,048,576 reads would result
- *   -9  more than 256 different extents would result
+ *   -8  more than 1,048,576 reads would result, those of a prefix or of both sides of a join counted
+ *   -9  more than 256 different extents would result, counted so too
  * What a call writes stands at the front of the buffer lent; what lies past it keeps its contents. */
 #ifndef JEMQOLU_H
 #define JEMQOLU_H
