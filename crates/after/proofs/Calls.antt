@@ -2,14 +2,13 @@
 use mathlib.Core.Path.{_≡_, ap, _∙_}
 use Prim.Native.Nat.{ℕ, _+_, _-_, _≤_, _<_}
 use native.Mathlib.Omega.{arith}
-use mathlib.Core.List.{List, _++_, foldl, map}
+use mathlib.Core.List.{List, _++_, map}
 use mathlib.Core.Bool.{true, false}
-use lib.Dec.{leb}
 use lib.ListN.{length, take, drop, getD, length-map}
-use borrow.Author.Tests.{le-leb, lt-leb, leb-true}
+use borrow.Author.Tests.{le-leb, lt-leb}
 use Rattle.reuse.specs.Limits.{maxReads, maxExtents}
 use Rattle.reuse.specs.Lists.{firsts}
-use Rattle.reuse.specs.Lru.{touch, reuses}
+use Rattle.reuse.specs.Lru.{reuses}
 use Rattle.reuse.specs.Engine.{stackWords}
 use Rattle.reuse.specs.Summary.{wellFormed, readsOf, firstOf, recentOf}
 use Rattle.reuse.proofs.Stack.{length-reuses}
@@ -33,19 +32,15 @@ module _ (w : List ℕ) (h : wellFormed w ≡ true) (stack : List ℕ) (e : stac
   whole = rw e (stack-length (recentOf w) (recent-few w (given w h)))
 
   -- it holds no extent twice
-  pub stacked : Stacked stack (getD w 1 0)
+  stacked : Stacked stack (getD w 1 0)
   stacked = record { held = omega (arith, whole, shaped w h .few); once = rw front (recent-distinct w (formed w h)) }
 
-  -- the reads find room exactly where no more extents than the limit would result
-  pub room-law : (reads : List ℕ) → leb (length (foldl touch (take (getD w 1 0) stack) reads)) (length stack) ≡ leb (length (firsts (firstOf w ++ reads))) maxExtents
-  room-law reads = rw (front, whole, prefix-stack w (formed w h) reads)
-
-  -- the distances can be written
-  pub traceable : (reads out : List ℕ) → leb (length (firsts (firstOf w ++ reads))) maxExtents ≡ true → length reads ≤ length out → Traceable stack (getD w 1 0) reads out
+  -- the distances can be written where no more extents than the limit result
+  pub traceable : (reads out : List ℕ) → length (firsts (firstOf w ++ reads)) ≤ maxExtents → length reads ≤ length out → Traceable stack (getD w 1 0) reads out
   traceable reads out few wide = record {
     stacked = stacked;
     small = omega (arith, whole);
-    room = leb-true _ _ (room-law reads ∙ few);
+    room = rw (front, whole, prefix-stack w (formed w h) reads) few;
     wide = wide;
   }
 
@@ -63,15 +58,17 @@ module _ (w reads out : List ℕ) where
 
     module _ (hl : length reads ≤ maxReads - getD w 0 0) where
       -- too many extents
-      pub refused-extents : leb (length (firsts (firstOf w ++ reads))) maxExtents ≡ false → afterCall w reads out ≡ refused 9 out
+      pub refused-extents : maxExtents < length (firsts (firstOf w ++ reads)) → afterCall w reads out ≡ refused 9 out
       unfolding afterCall readsOf
-      refused-extents e = simp (h, le-leb (getD w 0 0 + length reads) maxReads (omega (arith, shaped w h .short)), e)
+      refused-extents e =
+          simp (h, le-leb (getD w 0 0 + length reads) maxReads (omega (arith, shaped w h .short)), lt-leb (length (firsts (firstOf w ++ reads))) maxExtents e)
 
-      module _ (he : leb (length (firsts (firstOf w ++ reads))) maxExtents ≡ true) where
+      module _ (he : length (firsts (firstOf w ++ reads)) ≤ maxExtents) where
         -- past the tests of the prefix and the reads
         traces : afterCall w reads out ≡ wrote (map wordOf (reuses (recentOf w) reads)) out
         unfolding afterCall readsOf
-        traces = simp (h, le-leb (getD w 0 0 + length reads) maxReads (omega (arith, shaped w h .short)), he)
+        traces =
+            simp (h, le-leb (getD w 0 0 + length reads) maxReads (omega (arith, shaped w h .short)), le-leb (length (firsts (firstOf w ++ reads))) maxExtents he)
 
         -- a word for each read
         size : length (map wordOf (reuses (recentOf w) reads)) ≡ length reads

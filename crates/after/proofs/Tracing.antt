@@ -1,37 +1,21 @@
--- The passes over a part's reads: what each turn leaves, and what the end tells.
+-- The pass over a part's reads: what each turn leaves, and what the end tells.
 use mathlib.Core.Path.{_≡_, refl, sym, ap, _∙_}
 use Prim.Native.Nat.{ℕ, suc, _+_, _≤_, _<_}
 use native.Mathlib.Omega.{arith}
 use native.Mathlib.Numerals.{add-one}
-use mathlib.Core.List.{List, [], _∷_, _++_, foldl, map, append-assoc, map-append}
-use mathlib.Core.Bool.{true, false}
-use lib.Dec.{leb}
+use mathlib.Core.List.{List, [], _∷_, _++_, map, append-assoc, map-append}
 use lib.ListN.{length, take, drop, getD, set, length-append, length-drop, length-map}
 use lib.Seq.{take-all, drop-cons, set-at, length-take-le}
-use borrow.Author.Tests.{le-leb, lt-leb}
 use Rattle.reuse.specs.declared.Place.{Place}
 use Rattle.reuse.specs.declared.Place.the-variants.{Cold, Depth, Full, BadCount}
 use Rattle.reuse.specs.Limits.{maxExtents}
-use Rattle.reuse.specs.Lru.{Reuse, cold, at, depth, touch, reuses}
+use Rattle.reuse.specs.Lru.{Reuse, cold, at, depth, reuses}
 use Rattle.reuse.specs.Engine.{placeOf, leftBy}
 use Rattle.reuse.proofs.Stack.{length-reuses}
 use Rattle.reuse.proofs.Engine.{place-depth, place-range, place-cold}
-use Rattle.reuse.proofs.Runs.{Running, run-start, run-end, run-full, run-bad, held-fits, next-answers, turn-cold, turn-known}
+use Rattle.reuse.proofs.Runs.{Running, run-start, run-full, run-bad, held-fits, next-answers, turn-cold, turn-known}
 use Rattle.after.specs.Calls.{wordOf}
 use Rattle.after.specs.Passes.{Traceable}
-
--- the pass that looks for room
-module _ (stack : List ℕ) (n : ℕ) (reads row : List ℕ) (held i : ℕ) (h : Running stack n reads row held i) where
-  -- no room for a new extent
-  pub no-room : i < length reads → (r : Place) → r ≡ placeOf row held (getD reads i 0) → r ≡ Full
-      → false ≡ leb (length (foldl touch (take n stack) reads)) (length stack)
-  no-room l r p e = sym (lt-leb (length (foldl touch (take n stack) reads)) (length stack) (run-full stack n reads row held i h l (sym p ∙ e)))
-
-  -- room for all
-  pub all-room : length reads ≤ i → true ≡ leb (length (foldl touch (take n stack) reads)) (length stack)
-  all-room l =
-      sym (le-leb (length (foldl touch (take n stack) reads)) (length stack)
-      (omega (arith, run-end stack n reads row held i h l, held-fits stack n reads row held i h, h .long)))
 
 -- the first i reads are taken, and their distances written
 pub record Tracing (stack : List ℕ) (n : ℕ) (reads out row written : List ℕ) (held i : ℕ) : Type 0 where

@@ -1,4 +1,4 @@
--- What the private passes over a part's reads rely on.
+-- What the private pass over a part's reads relies on.
 use Prim.Native.Nat.{ℕ, _≤_}
 use mathlib.Core.Path.{_≡_}
 use mathlib.Core.List.{List, foldl}

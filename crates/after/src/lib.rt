@@ -14,17 +14,18 @@ pub fn distances(prefix: &[u32], reads: &[u32], out: &mut [u32]) -> Written
     }
     let left = (reuse::MAX_READS - prefix[0]) as usize;
     let v = prefix[1] as usize;
+    let first_end = 2 + v;
     if left < reads.len() {
         return Written::Refused(8);
     }
-    let mut stack = passes::recent_stack(prefix);
-    if !passes::roomy(&mut stack, v, reads) {
+    let extents = reuse::tables::extents_with(&prefix[2..first_end], reads);
+    if reuse::MAX_EXTENTS < extents {
         return Written::Refused(9);
     }
     if out.len() < reads.len() {
         return Written::Refused(6);
     }
-    let mut again = passes::recent_stack(prefix);
-    passes::trace(&mut again, v, reads, out);
+    let mut stack = passes::recent_stack(prefix);
+    passes::trace(&mut stack, v, reads, out);
     Written::Words(reads.len())
 }

@@ -1,15 +1,14 @@
-// The stack that a part finds, and the two passes over its reads: one finds whether there is room, one writes the distances.
+// The stack that a part finds, and the pass over its reads that writes their distances.
 use reuse::Place;
 ghost use mathlib.Core.Path.{_≡_};
-ghost use mathlib.Core.List.{_++_, foldl, map};
-ghost use lib.Dec.{leb};
+ghost use mathlib.Core.List.{_++_, map};
 ghost use lib.ListN.{length, take, drop};
-ghost use Rattle.reuse.specs.Lru.{touch, reuses};
+ghost use Rattle.reuse.specs.Lru.{reuses};
 ghost use Rattle.reuse.specs.Engine.{stackWords};
 ghost use Rattle.reuse.specs.Summary.{recentOf};
 ghost use Rattle.summary.specs.Rows.{Shaped};
 ghost use Rattle.after.specs.Calls.{wordOf};
-ghost use Rattle.after.specs.Passes.{Stacked, Traceable};
+ghost use Rattle.after.specs.Passes.{Traceable};
 
 // A stack of the prefix's extents by last read, the latest on top.
 pub fn recent_stack(prefix: &[u32]) -> [u32; reuse::MAX_EXTENTS]
@@ -20,32 +19,6 @@ pub fn recent_stack(prefix: &[u32]) -> [u32; reuse::MAX_EXTENTS]
     let recent = 2 + v;
     let counts = recent + v;
     reuse::stack_of(&prefix[recent..counts])
-}
-
-// Whether each new extent finds room, when the reads are taken after the stack in the first n words.
-pub fn roomy(stack: &mut [u32], n: usize, reads: &[u32]) -> bool
-    requires { ⌜ Stacked (now stack) n ⌝ }
-    ensures { λ r. ⌜ r ≡ leb (length (foldl touch (take n (now (stack .entry))) (now (reads .entry)))) (length (now (stack .entry))) ⌝ }
-{
-    let mut held = n;
-    let mut i: usize = 0;
-    while i < reads.len() {
-        let place = reuse::touch(stack, held, reads[i]);
-        match place {
-            Place::Cold => {
-                held = held + 1;
-            }
-            Place::Depth(_) => {}
-            Place::Full => {
-                return false;
-            }
-            Place::BadCount => {
-                return false;
-            }
-        }
-        i = i + 1;
-    }
-    true
 }
 
 // The distances of the reads after the stack in the first n words, one word each.

@@ -20,4 +20,5 @@ pub mod Laying
 pub mod Slices
 pub mod Puts
 pub mod Lookups
+pub mod Counting
 pub mod Examples

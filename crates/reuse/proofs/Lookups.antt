@@ -12,7 +12,7 @@ use lib.Seq.{take-suc, take-all, getD-take, getD-set-same, getD-set-other}
 use borrow.Author.Tests.{eq-eqb, ne-eqb, eqb-true, eqb-false}
 use Rattle.reuse.specs.Limits.{maxExtents}
 use Rattle.reuse.specs.Lists.{mem, distinct, allIn}
-use Rattle.reuse.specs.Tables.{tablePlaces, bucketOf, hintsFrom, hintsOf, standsBy, lookedUp}
+use Rattle.reuse.specs.Tables.{tablePlaces, bucketOf, hintsFrom, hintsOf, standsBy, lookedUp, Notes}
 use Rattle.reuse.proofs.Lists.{by-test, clash, mem-append}
 use Rattle.reuse.proofs.Distinct.{distinct-snoc}
 use Rattle.reuse.proofs.Cache.{distinct-take}
@@ -23,13 +23,8 @@ pub bucket-below : (x : ℕ) → bucketOf x < tablePlaces
 unfolding bucketOf
 bucket-below x = omega arith
 
--- each of the words l is noted in the table
-pub record Notes (table l : List ℕ) : Type 0 where
-  pub wide : length table ≡ tablePlaces
-  pub noted : (y : ℕ) → mem y l ≡ true → getD table (bucketOf y) 0 ≡ 0 → ⊥
-
--- no word is
-notes-start : (table : List ℕ) → length table ≡ tablePlaces → Notes table []
+-- no word is noted
+pub notes-start : (table : List ℕ) → length table ≡ tablePlaces → Notes table []
 unfolding mem
 notes-start table w = record { wide = w; noted = λ y h e. clash h refl }
 
@@ -49,7 +44,7 @@ module _ (table l : List ℕ) (x n : ℕ) (u : Notes table l) where
       u .noted y (noted-before y k q) (sym (getD-set-other table (bucketOf x) (bucketOf y) (suc n) 0 q) ∙ e)
 
   -- one more word is noted
-  notes-more : Notes (set table (bucketOf x) (suc n)) (l ++ (x ∷ []))
+  pub notes-more : Notes (set table (bucketOf x) (suc n)) (l ++ (x ∷ []))
   notes-more = record {
     wide = length-set table (bucketOf x) (suc n) ∙ u .wide;
     noted = λ y k e. noted-there y k e (ℕ-discrete (bucketOf y) (bucketOf x));

@@ -162,26 +162,7 @@ pub fn stack_of(extents: &[u32]) -> [u32; MAX_EXTENTS]
 pub fn extents_of(trace: &[u32]) -> usize
     ensures { λ r. ⌜ r ≡ min (length (firsts (now (trace .entry)))) (suc maxExtents) ⌝ }
 {
-    let mut lru = [0u32; MAX_EXTENTS];
-    let mut held: usize = 0;
-    let mut i: usize = 0;
-    while i < trace.len() {
-        let place = touch(&mut lru, held, trace[i]);
-        match place {
-            Place::Cold => {
-                held = held + 1;
-            }
-            Place::Depth(_) => {}
-            Place::Full => {
-                return MAX_EXTENTS + 1;
-            }
-            Place::BadCount => {
-                return held;
-            }
-        }
-        i = i + 1;
-    }
-    held
+    tables::extents_with(&trace[..0], trace)
 }
 
 // Whether x stands in the slice. No early exit: the loop is vectorized.

@@ -1,11 +1,12 @@
 // Tables of words: a word is looked up by the place that it falls to.
 use crate::MAX_EXTENTS;
 ghost use mathlib.Core.Path.{_≡_};
-ghost use Prim.Native.Nat.{_<_};
-ghost use lib.ListN.{drop};
+ghost use mathlib.Core.List.{_++_};
+ghost use Prim.Native.Nat.{suc, min, _<_};
+ghost use lib.ListN.{length, take, drop};
 ghost use Rattle.reuse.specs.Limits.{maxExtents};
-ghost use Rattle.reuse.specs.Lists.{mem, allIn, distinct};
-ghost use Rattle.reuse.specs.Tables.{tablePlaces, bucketOf, hintsOf, standsBy, lookedUp};
+ghost use Rattle.reuse.specs.Lists.{mem, allIn, distinct, firsts};
+ghost use Rattle.reuse.specs.Tables.{tablePlaces, bucketOf, hintsOf, standsBy, lookedUp, Held, Counted};
 
 // The places of a table.
 pub const PLACES: usize = 4096;
@@ -103,4 +104,41 @@ pub fn all_in(words: &[u32], among: &[u32]) -> bool
         i = i + 1;
     }
     true
+}
+
+// How many different extents two traces have, one read after the other, counted to one more than the limit.
+pub fn extents_with(before: &[u32], trace: &[u32]) -> usize
+    ensures { λ r. ⌜ r ≡ min (length (firsts (now (before .entry) ++ now (trace .entry)))) (suc maxExtents) ⌝ }
+{
+    let mut held = [0u32; MAX_EXTENTS];
+    let mut table = [0u32; PLACES];
+    let n = hold(&mut held, &mut table, 0, before);
+    if MAX_EXTENTS < n {
+        return n;
+    }
+    hold(&mut held, &mut table, n, trace)
+}
+
+// The words that do not stand among the first n held are held too, each once, and noted in the table.
+// How many are held then, or one more than the limit, where there is no room for the next.
+fn hold(held: &mut [u32], table: &mut [u32; PLACES], n: usize, words: &[u32]) -> usize
+    requires { ⌜ Held (now held) (now table) n ⌝ }
+    ensures { λ r. ⌜ Counted (take n (now (held .entry))) (now (words .entry)) (now (held .exit)) (now (table .exit)) r ⌝ }
+{
+    let mut count = n;
+    let mut i: usize = 0;
+    while i < words.len() {
+        let x = words[i];
+        if !known(&held[..count], table, x) {
+            if count == MAX_EXTENTS {
+                return MAX_EXTENTS + 1;
+            }
+            held[count] = x;
+            count = count + 1;
+            let h = bucket(x);
+            table[h] = count as u32;
+        }
+        i = i + 1;
+    }
+    count
 }
