@@ -1,17 +1,17 @@
 -- Words that hold a session or a watch: too few of them, and what a refusal leaves.
 use mathlib.Core.Path.{_≡_, refl, sym, ap, _∙_}
-use Prim.Native.Nat.{ℕ, zero, suc, _+_, _≤_, _<_}
+use Prim.Native.Nat.{ℕ, zero, suc, _≤_, _<_}
 use native.Mathlib.Omega.{arith}
-use mathlib.Core.List.{List, _++_}
+use mathlib.Core.List.{List}
 use mathlib.Core.Bool.{true, false, true≢false, false≢true}
-use lib.Dec.{leb}
-use lib.ListN.{length, drop, length-replicate}
+use lib.ListN.{length, length-replicate}
 use borrow.Author.Tests.{le-leb, lt-leb}
 use Rattle.reuse.specs.Limits.{maxExtents, slotCount, sumCount}
 use Rattle.reuse.specs.Rows.{putAt}
 use Rattle.reuse.proofs.Puts.{put-length}
 use Rattle.summary.specs.declared.Written.the-variants.{Words}
-use Rattle.summary.specs.Calls.{Wrote, wrote, refused}
+use Rattle.summary.specs.Calls.{refused}
+use Rattle.summary.proofs.Calls.{wrote-short, wrote-all}
 use Rattle.session.specs.declared.Session.{Session}
 use Rattle.session.specs.declared.Answer.{Answer}
 use Rattle.session.specs.declared.Answer.the-variants.{Cold, Distance, Refused}
@@ -31,19 +31,6 @@ use Rattle.capi.specs.Answers.{isRead, isCounted}
 use Rattle.capi.specs.Layout.{sessionLength, sessionIn, sessionLaid, watchLength, watchIn, watchLaid}
 use Rattle.capi.specs.Calls.{newSession, readIn, sessionLeft, summaryIn, newWatch, readingAt, noteIn, watchLeft, missesIn, shareIn}
 use Rattle.capi.proofs.Laid.{laid-length, laid-read}
-
--- too few words to write to
-pub wrote-short : (w out : List ℕ) → length out < length w → wrote w out ≡ refused 6 out
-unfolding wrote
-wrote-short w out l = simp (lt-leb (length w) (length out) l)
-
--- enough of them
-pub wrote-all : (w out : List ℕ) (n : ℕ) → length w ≡ n → n ≤ length out → wrote w out ≡ record { answer = Words n; buffer = putAt out 0 w }
-unfolding wrote putAt
-wrote-all w out n e l =
-    let z : 0 + length w ≡ length w = omega arith in
-    rw z (simp (le-leb (length w) (length out) (omega (arith, e)))
-    (ap (λ (k : ℕ). record { answer = Words k; buffer = w ++ drop (length w) out }) e))
 
 -- the rows of a new session
 fresh-wide : Wide (fresh .first) (fresh .hist) (fresh .slots) (fresh .sums)

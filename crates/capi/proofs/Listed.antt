@@ -9,6 +9,7 @@ use lib.Seq.{length-take-le}
 use Rattle.reuse.specs.Rows.{putAt}
 use Rattle.summary.specs.declared.Written.the-variants.{Words}
 use Rattle.summary.specs.Calls.{wrote, refused}
+use Rattle.summary.proofs.Calls.{wrote-short, wrote-all}
 use Rattle.texts.specs.Lines.{Read, got, refused as faulty}
 use Rattle.texts.specs.Logs.{logOf}
 use Rattle.listing.specs.declared.Verdict.{Verdict}
@@ -16,7 +17,6 @@ use Rattle.listing.specs.declared.Verdict.the-variants.{Listed, Refused}
 use Rattle.listing.specs.Feeding.{verdictBy}
 use Rattle.listing.specs.Listings.{listingOf}
 use Rattle.capi.specs.Calls.{listBy, listCall}
-use Rattle.capi.proofs.Kept.{wrote-short, wrote-all}
 
 -- the number of a refusal
 abbrev numberOf : Verdict → ℕ

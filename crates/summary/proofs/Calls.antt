@@ -24,12 +24,12 @@ join-length a b ha hb =
     (joined-length a b (formed a ha) (formed b hb)) (unfold joinedCounts in simp (length-map, length-from)))
 
 -- words for which there is no room
-wrote-short : (w out : List ℕ) → length out < length w → wrote w out ≡ refused 6 out
+pub wrote-short : (w out : List ℕ) → length out < length w → wrote w out ≡ refused 6 out
 unfolding wrote
 wrote-short w out l = simp (lt-leb (length w) (length out) l)
 
 -- n words that are written
-wrote-all : (w out : List ℕ) (n : ℕ) → length w ≡ n → n ≤ length out → wrote w out ≡ record { answer = Words n; buffer = putAt out 0 w }
+pub wrote-all : (w out : List ℕ) (n : ℕ) → length w ≡ n → n ≤ length out → wrote w out ≡ record { answer = Words n; buffer = putAt out 0 w }
 unfolding wrote putAt
 wrote-all w out n e l =
     let z : 0 + length w ≡ length w = omega arith in
