@@ -9,10 +9,10 @@ use borrow.Author.Tests.{le-leb, lt-leb}
 use Rattle.reuse.specs.Limits.{maxReads, maxExtents}
 use Rattle.reuse.specs.Lists.{firsts}
 use Rattle.reuse.specs.Lru.{reuses}
-use Rattle.reuse.specs.Engine.{stackWords}
+use Rattle.reuse_rows.specs.Rows.{padded}
 use Rattle.reuse.specs.Summary.{wellFormed, readsOf, firstOf, recentOf}
 use Rattle.reuse.proofs.Stack.{length-reuses}
-use Rattle.reuse.proofs.Laying.{stack-front, stack-length}
+use Rattle.reuse_rows.proofs.Padding.{padded-front, padded-length}
 use Rattle.reuse.proofs.Formed.{formed, recent-distinct, prefix-stack}
 use Rattle.summary.specs.declared.Written.the-variants.{Words}
 use Rattle.summary.specs.Calls.{wrote, refused}
@@ -22,14 +22,14 @@ use Rattle.after.specs.Calls.{wordOf, afterCall}
 use Rattle.after.specs.Passes.{Stacked, Traceable}
 
 -- R of a well-formed prefix, laid into a stack
-module _ (w : List ℕ) (h : wellFormed w ≡ true) (stack : List ℕ) (e : stack ≡ stackWords (recentOf w)) where
+module _ (w : List ℕ) (h : wellFormed w ≡ true) (stack : List ℕ) (e : stack ≡ padded (recentOf w)) where
   -- R is the front of the stack
   pub front : take (getD w 1 0) stack ≡ recentOf w
-  front = rw (e, ← recent-size w (given w h)) (stack-front (recentOf w) (recent-few w (given w h)))
+  front = rw (e, ← recent-size w (given w h)) (padded-front (recentOf w) (recent-few w (given w h)))
 
   -- the stack has room for the limit
   pub whole : length stack ≡ maxExtents
-  whole = rw e (stack-length (recentOf w) (recent-few w (given w h)))
+  whole = rw e (padded-length (recentOf w) (recent-few w (given w h)))
 
   -- it holds no extent twice
   stacked : Stacked stack (getD w 1 0)

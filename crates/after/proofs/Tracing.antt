@@ -6,14 +6,14 @@ use native.Mathlib.Numerals.{add-one}
 use mathlib.Core.List.{List, [], _∷_, _++_, map, append-assoc, map-append}
 use lib.ListN.{length, take, drop, getD, set, length-append, length-drop, length-map}
 use lib.Seq.{take-all, drop-cons, set-at, length-take-le}
-use Rattle.reuse.specs.declared.Place.{Place}
-use Rattle.reuse.specs.declared.Place.the-variants.{Cold, Depth, Full, BadCount}
+use Rattle.reuse_engine.specs.declared.Place.{Place}
+use Rattle.reuse_engine.specs.declared.Place.the-variants.{Cold, Depth, Full, BadCount}
 use Rattle.reuse.specs.Limits.{maxExtents}
 use Rattle.reuse.specs.Lru.{Reuse, cold, at, depth, reuses}
-use Rattle.reuse.specs.Engine.{placeOf, leftBy}
+use Rattle.reuse_engine.specs.Engine.{placeOf, leftBy}
 use Rattle.reuse.proofs.Stack.{length-reuses}
-use Rattle.reuse.proofs.Engine.{place-depth, place-range, place-cold}
-use Rattle.reuse.proofs.Runs.{Running, run-start, run-full, run-bad, held-fits, next-answers, turn-cold, turn-known}
+use Rattle.reuse_engine.proofs.Engine.{place-depth, place-range, place-cold}
+use Rattle.reuse_engine.proofs.Runs.{Running, run-start, run-full, run-bad, held-fits, next-answers, turn-cold, turn-known}
 use Rattle.after.specs.Calls.{wordOf}
 use Rattle.after.specs.Passes.{Traceable}
 

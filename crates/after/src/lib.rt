@@ -18,7 +18,7 @@ pub fn distances(prefix: &[u32], reads: &[u32], out: &mut [u32]) -> Written
     if left < reads.len() {
         return Written::Refused(8);
     }
-    let extents = reuse::tables::extents_with(&prefix[2..first_end], reads);
+    let extents = reuse_tables::extents_with(&prefix[2..first_end], reads);
     if reuse::MAX_EXTENTS < extents {
         return Written::Refused(9);
     }

@@ -1,10 +1,10 @@
 // The stack that a part finds, and the pass over its reads that writes their distances.
-use reuse::Place;
+use reuse_engine::Place;
 ghost use mathlib.Core.Path.{_≡_};
 ghost use mathlib.Core.List.{_++_, map};
 ghost use lib.ListN.{length, take, drop};
 ghost use Rattle.reuse.specs.Lru.{reuses};
-ghost use Rattle.reuse.specs.Engine.{stackWords};
+ghost use Rattle.reuse_rows.specs.Rows.{padded};
 ghost use Rattle.reuse.specs.Summary.{recentOf};
 ghost use Rattle.summary.specs.Rows.{Shaped};
 ghost use Rattle.after.specs.Calls.{wordOf};
@@ -13,12 +13,12 @@ ghost use Rattle.after.specs.Passes.{Traceable};
 // A stack of the prefix's extents by last read, the latest on top.
 pub fn recent_stack(prefix: &[u32]) -> [u32; reuse::MAX_EXTENTS]
     requires { ⌜ Shaped (now prefix) ⌝ }
-    ensures { λ r. ⌜ r ≡ stackWords (recentOf (now (prefix .entry))) ⌝ }
+    ensures { λ r. ⌜ r ≡ padded (recentOf (now (prefix .entry))) ⌝ }
 {
     let v = prefix[1] as usize;
     let recent = 2 + v;
     let counts = recent + v;
-    reuse::stack_of(&prefix[recent..counts])
+    reuse_rows::padded(&prefix[recent..counts])
 }
 
 // The distances of the reads after the stack in the first n words, one word each.
@@ -29,7 +29,7 @@ pub fn trace(stack: &mut [u32], n: usize, reads: &[u32], out: &mut [u32])
     let mut held = n;
     let mut i: usize = 0;
     while i < reads.len() {
-        let place = reuse::touch(stack, held, reads[i]);
+        let place = reuse_engine::touch(stack, held, reads[i]);
         match place {
             Place::Cold => {
                 held = held + 1;

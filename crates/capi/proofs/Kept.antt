@@ -7,8 +7,8 @@ use mathlib.Core.Bool.{true, false, true≢false, false≢true}
 use lib.ListN.{length, length-replicate}
 use borrow.Author.Tests.{le-leb, lt-leb}
 use Rattle.reuse.specs.Limits.{maxExtents, slotCount, sumCount}
-use Rattle.reuse.specs.Rows.{putAt}
-use Rattle.reuse.proofs.Puts.{put-length}
+use Rattle.reuse_rows.specs.Rows.{putAt}
+use Rattle.reuse_rows.proofs.Puts.{put-length}
 use Rattle.summary.specs.declared.Written.the-variants.{Words}
 use Rattle.summary.specs.Calls.{refused}
 use Rattle.summary.proofs.Calls.{wrote-short, wrote-all}

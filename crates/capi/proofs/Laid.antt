@@ -7,8 +7,8 @@ use lib.ListN.{length, take, drop, getD, set, length-append, length-take, length
 use lib.Seq.{drop-at, take-at, drop-drop, getD-drop}
 use borrow.Author.Tests.{le-leb}
 use Rattle.reuse.specs.Limits.{maxExtents, slotCount, sumCount}
-use Rattle.reuse.specs.Rows.{putAt, placed}
-use Rattle.reuse.proofs.Puts.{put-length, put-append, put-cons, put-none, placed-fits}
+use Rattle.reuse_rows.specs.Rows.{putAt, placed}
+use Rattle.reuse_rows.proofs.Puts.{put-length, put-append, put-cons, put-none, placed-fits}
 use Rattle.session.specs.declared.Session.{Session}
 use Rattle.session.specs.Steps.{Wide}
 use Rattle.summary.proofs.Filling.{Filled, fill-step, filled-length}

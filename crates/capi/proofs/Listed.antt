@@ -6,7 +6,7 @@ use mathlib.Core.Bool.{Bool, true, false, true≢false, false≢true}
 use mathlib.Core.List.{List}
 use lib.ListN.{length, take}
 use lib.Seq.{length-take-le}
-use Rattle.reuse.specs.Rows.{putAt}
+use Rattle.reuse_rows.specs.Rows.{putAt}
 use Rattle.summary.specs.declared.Written.the-variants.{Words}
 use Rattle.summary.specs.Calls.{wrote, refused}
 use Rattle.summary.proofs.Calls.{wrote-short, wrote-all}

@@ -4,7 +4,7 @@ use mathlib.Core.Bool.{cond}
 use mathlib.Core.List.{List}
 use lib.Dec.{leb}
 use lib.ListN.{length}
-use Rattle.reuse.specs.Rows.{putAt}
+use Rattle.reuse_rows.specs.Rows.{putAt}
 use Rattle.summary.specs.declared.MissCount.{MissCount}
 use Rattle.summary.specs.declared.MissCount.the-variants.{Refused as NoMisses}
 use Rattle.summary.specs.declared.ShareAnswer.{ShareAnswer}

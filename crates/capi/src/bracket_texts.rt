@@ -5,7 +5,7 @@ use listing::Verdict;
 ghost use mathlib.Core.Path.{_≡_};
 ghost use Prim.Native.Nat.{_≤_};
 ghost use lib.ListN.{length};
-ghost use Rattle.reuse.specs.Rows.{putAt};
+ghost use Rattle.reuse_rows.specs.Rows.{putAt};
 ghost use Rattle.plan.specs.Calls.{runCall};
 ghost use Rattle.capi.specs.Answers.{counted};
 ghost use Rattle.capi.specs.Calls.{listCall};

@@ -1,11 +1,10 @@
 // Sessions and watches in lent words.
-use reuse::rows;
 use session::Session;
 use watch::Watch;
 ghost use mathlib.Core.Path.{_≡_};
 ghost use Prim.Native.Nat.{_≤_};
 ghost use lib.ListN.{length};
-ghost use Rattle.reuse.specs.Rows.{putAt};
+ghost use Rattle.reuse_rows.specs.Rows.{putAt};
 ghost use Rattle.capi.specs.Layout.{sessionLength, sessionIn, sessionLaid, watchLength, watchIn, watchLaid};
 
 // Where F, H, the slots, the sums and the next slot stand in a session's words, after its reads.
@@ -33,10 +32,10 @@ pub fn session_in(words: &[u32]) -> Session
     let mut hist = [0u32; reuse::MAX_EXTENTS];
     let mut slots = [0u32; reuse::SLOTS];
     let mut sums = [0u32; reuse::SUMS];
-    rows::put(&mut first, 0, &words[FIRST..HIST]);
-    rows::put(&mut hist, 0, &words[HIST..SLOTS]);
-    rows::put(&mut slots, 0, &words[SLOTS..SUMS]);
-    rows::put(&mut sums, 0, &words[SUMS..NEXT]);
+    reuse_rows::put(&mut first, 0, &words[FIRST..HIST]);
+    reuse_rows::put(&mut hist, 0, &words[HIST..SLOTS]);
+    reuse_rows::put(&mut slots, 0, &words[SLOTS..SUMS]);
+    reuse_rows::put(&mut sums, 0, &words[SUMS..NEXT]);
     let reads = words[0];
     let next = words[NEXT];
     Session {
@@ -55,10 +54,10 @@ pub fn put_session(words: &mut [u32], s: Session)
     ensures { λ _. ⌜ now (words .exit) ≡ putAt (now (words .entry)) 0 (sessionLaid s) ⌝ }
 {
     words[0] = s.reads;
-    rows::put(words, FIRST, &s.first);
-    rows::put(words, HIST, &s.hist);
-    rows::put(words, SLOTS, &s.slots);
-    rows::put(words, SUMS, &s.sums);
+    reuse_rows::put(words, FIRST, &s.first);
+    reuse_rows::put(words, HIST, &s.hist);
+    reuse_rows::put(words, SLOTS, &s.slots);
+    reuse_rows::put(words, SUMS, &s.sums);
     words[NEXT] = s.next;
 }
 
@@ -81,5 +80,5 @@ pub fn put_watch(words: &mut [u32], w: Watch)
     ensures { λ _. ⌜ now (words .exit) ≡ putAt (now (words .entry)) 0 (watchLaid w) ⌝ }
 {
     let row = [w.size, w.reads, w.cold, w.hits];
-    rows::put(words, 0, &row);
+    reuse_rows::put(words, 0, &row);
 }

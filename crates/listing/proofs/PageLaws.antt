@@ -5,7 +5,7 @@ use native.Mathlib.Omega.{arith}
 use mathlib.Core.List.{List, [], _∷_, _++_, append-assoc, append-nil}
 use lib.ListN.{length, take, drop, getD, set, drop-of-length-le, length-append, length-set}
 use lib.Seq.{take-suc-set}
-use Rattle.reuse.proofs.Slices.{next-word}
+use Rattle.reuse_rows.proofs.Slices.{next-word}
 use Rattle.listing.specs.Pages.{Put, closing, lineEnd, endRoom}
 
 -- the first i bytes are put; what is left is still to be put

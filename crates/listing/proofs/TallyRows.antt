@@ -11,13 +11,13 @@ use borrow.Author.Tests.{le-ltb, lt-ltb, le-leb, lt-leb}
 use Rattle.reuse.specs.Limits.{maxReads, maxExtents}
 use Rattle.reuse.specs.Lists.{mem, sum}
 use Rattle.reuse.specs.Lru.{at, depth, touch}
-use Rattle.reuse.specs.Engine.{placeOf, leftBy}
-use Rattle.reuse.specs.declared.Place.the-variants.{Cold, Depth, Full}
+use Rattle.reuse_engine.specs.Engine.{placeOf, leftBy}
+use Rattle.reuse_engine.specs.declared.Place.the-variants.{Cold, Depth, Full}
 use Rattle.reuse.proofs.Lists.{by-test}
 use Rattle.reuse.proofs.Depth.{depth-absent, cold-absent}
 use Rattle.reuse.proofs.Stack.{distinct-touch}
 use Rattle.reuse.proofs.Sums.{sum-more, at-le-sum}
-use Rattle.reuse.proofs.Engine.{place-depth, place-range, place-cold, place-room, place-full, touched-known, touched-new}
+use Rattle.reuse_engine.proofs.Engine.{place-depth, place-range, place-cold, place-room, place-full, touched-known, touched-new}
 use Rattle.texts.specs.Limits.{maxExtent}
 use Rattle.texts.specs.Lines.{to, no, unless}
 use Rattle.texts.specs.Logs.{row}

@@ -81,7 +81,7 @@ impl Lister {
             return false;
         }
         let stack = self.stack;
-        if !reuse::tables::all_distinct(&stack[..v]) {
+        if !reuse_tables::all_distinct(&stack[..v]) {
             return false;
         }
         let counts = self.counts;

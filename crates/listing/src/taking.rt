@@ -3,7 +3,7 @@ use crate::Phase;
 use crate::lines;
 use crate::lines::Head;
 use crate::lines::Row;
-use reuse::Place;
+use reuse_engine::Place;
 ghost use mathlib.Core.Path.{_≡_};
 ghost use mathlib.Core.Bool.{cond};
 ghost use Rattle.texts.specs.Logs.{row};
@@ -69,7 +69,7 @@ fn take_row(
     if reuse::MAX_READS <= reads {
         return refused(8, reads, extents);
     }
-    let place = reuse::touch(stack, extents, x as u32);
+    let place = reuse_engine::touch(stack, extents, x as u32);
     match place {
         Place::Cold => {
             counts[extents] = 0;

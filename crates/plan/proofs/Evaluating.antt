@@ -16,7 +16,7 @@ use Rattle.reuse.proofs.Words.{length-summary}
 use Rattle.reuse.proofs.Lists.{firsts-longer}
 use Rattle.reuse.proofs.Formed.{firsts-grow}
 use Rattle.reuse.proofs.Traces.{within-part}
-use Rattle.reuse.specs.Rows.{putAt}
+use Rattle.reuse_rows.specs.Rows.{putAt}
 use Rattle.summary.specs.Calls.{Wrote, wrote, joinCall, traceCall}
 use Rattle.summary.proofs.Traces.{join-trace, trace-within}
 use mathlib.Core.Logic.{inl, inr}

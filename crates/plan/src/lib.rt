@@ -71,7 +71,7 @@ fn carry_out(text: &[u8], log: &[u32], work: &mut [u32], out: &mut [u32], depth:
     if (reuse::MAX_READS as usize) < log.len() {
         return Written::Refused(8);
     }
-    let extents = reuse::extents_of(log);
+    let extents = reuse_tables::extents_of(log);
     if reuse::MAX_EXTENTS < extents {
         return Written::Refused(9);
     }

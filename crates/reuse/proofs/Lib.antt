@@ -12,13 +12,5 @@ pub mod Join
 pub mod Monoid
 pub mod Formed
 pub mod Misses
-pub mod Passes
-pub mod Engine
-pub mod Runs
 pub mod Traces
-pub mod Laying
-pub mod Slices
-pub mod Puts
-pub mod Lookups
-pub mod Counting
 pub mod Examples

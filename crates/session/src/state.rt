@@ -11,7 +11,6 @@ use crate::walk;
 use reuse::MAX_EXTENTS;
 use reuse::MAX_READS;
 use reuse::SLOTS;
-use reuse::tables;
 
 // The part of the test that is of the marks: below next, tidy, and summed.
 pub fn marks_hold<'a>(slots: &'a [u32; 512], sums: &'a [u32; 1023], next: usize) -> bool
@@ -63,9 +62,9 @@ pub fn intact<'a>(
         return false;
     }
     let extents: &[u32] = first;
-    if !tables::all_distinct(&extents[..v]) {
+    if !reuse_tables::all_distinct(&extents[..v]) {
         return false;
     }
     let marked = row::gather(slots, sums);
-    tables::all_in(&extents[..v], &marked[..v])
+    reuse_tables::all_in(&extents[..v], &marked[..v])
 }

@@ -14,7 +14,7 @@ use Rattle.reuse.proofs.Words.{length-words, length-summary}
 use Rattle.reuse.proofs.Counts.{length-from}
 use Rattle.summary.specs.declared.Written.the-variants.{Words}
 use Rattle.summary.specs.Calls.{wrote, joinCall, traceCall, refused}
-use Rattle.reuse.specs.Rows.{putAt}
+use Rattle.reuse_rows.specs.Rows.{putAt}
 
 -- the words of a join are 2 + 3v
 pub join-length : (a b : List ℕ) → wellFormed a ≡ true → wellFormed b ≡ true → length (joinOf a b) ≡ 2 + 3 * length (joinedFirst a b)

@@ -8,16 +8,16 @@ use lib.Dec.{eqb}
 use lib.ListN.{length, take, getD, set, length-set, length-take}
 use lib.Seq.{take-all, getD-set-same, getD-set-other}
 use borrow.Author.Tests.{eqb-true, eqb-false}
-use Rattle.reuse.specs.declared.Place.{Place}
-use Rattle.reuse.specs.declared.Place.the-variants.{Cold, Depth, Full, BadCount}
+use Rattle.reuse_engine.specs.declared.Place.{Place}
+use Rattle.reuse_engine.specs.declared.Place.the-variants.{Cold, Depth, Full, BadCount}
 use Rattle.reuse.specs.Lists.{count, distinct}
 use Rattle.reuse.specs.Lru.{cold, at, depth, touch, reuses, isAt, countAt}
-use Rattle.reuse.specs.Engine.{placeOf, leftBy}
+use Rattle.reuse_engine.specs.Engine.{placeOf, leftBy}
 use Rattle.reuse.proofs.Lists.{by-test}
 use Rattle.reuse.proofs.Stack.{length-reuses}
 use Rattle.reuse.proofs.Counts.{count-le, count-snoc}
-use Rattle.reuse.proofs.Engine.{place-depth, place-range, place-cold}
-use Rattle.reuse.proofs.Runs.{Running, run-start, run-full, run-bad, held-fits, next-answers, turn-cold, turn-known}
+use Rattle.reuse_engine.proofs.Engine.{place-depth, place-range, place-cold}
+use Rattle.reuse_engine.proofs.Runs.{Running, run-start, run-full, run-bad, held-fits, next-answers, turn-cold, turn-known}
 use Rattle.summary.specs.Rows.{Counted}
 
 -- the first i reads are taken, and their distances counted

@@ -8,8 +8,8 @@ use Rattle.reuse.specs.Lists.{from}
 use Rattle.reuse.specs.Summary.{words, readsOf, firstOf, recentOf, joinedFirst, joinedRecent, joinedCount, joinedCounts, joinOf}
 use Rattle.reuse.proofs.Counts.{length-from}
 use Rattle.reuse.proofs.Formed.{formed, joined-length}
-use Rattle.reuse.specs.Rows.{putAt}
-use Rattle.reuse.proofs.Puts.{put-length, put-append, put-cons, put-none}
+use Rattle.reuse_rows.specs.Rows.{putAt}
+use Rattle.reuse_rows.proofs.Puts.{put-length, put-append, put-cons, put-none}
 use Rattle.summary.specs.Rows.{beside, Joinable, JoinedRow}
 
 -- the first two words of a join

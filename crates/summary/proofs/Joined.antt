@@ -11,8 +11,8 @@ use Rattle.reuse.specs.Lru.{touch, reuses, countAt}
 use Rattle.reuse.specs.Summary.{readsOf, extentsOf, firstOf, recentOf, countsOf, countFor, joinedCount}
 use Rattle.reuse.proofs.Counts.{finite, count-finite, take-from}
 use Rattle.reuse.proofs.Sums.{getD-zeros, at-le-sum}
-use Rattle.reuse.specs.Engine.{stackWords}
-use Rattle.reuse.proofs.Laying.{stack-front, stack-length}
+use Rattle.reuse_rows.specs.Rows.{padded}
+use Rattle.reuse_rows.proofs.Padding.{padded-front, padded-length}
 use Rattle.reuse.proofs.Words.{recent-length, first-length}
 use Rattle.reuse.proofs.Formed.{formed, recent-distinct, join-distances, joined-stack}
 use Rattle.summary.specs.Rows.{Added, Counted, Countable, Given, Near, JoinedRow}
@@ -39,16 +39,16 @@ module _ (a b : List ℕ) (g : Near a b) where
   room = omega (arith, joined-stack a b (formed a (g .left .formed)) (formed b (g .right .formed)), g .few)
 
   module _ (stack one two : List ℕ)
-      (es : stack ≡ stackWords (recentOf a))
+      (es : stack ≡ padded (recentOf a))
       (e1 : Added (replicate maxExtents 0) (countsOf a) one)
       (e2 : Added one (countsOf b) two) where
     -- R of A is the front of the stack
     front : take (getD a 1 0) stack ≡ recentOf a
-    front = rw (es, ← recent-size a (g .left)) (stack-front (recentOf a) (recent-few a (g .left)))
+    front = rw (es, ← recent-size a (g .left)) (padded-front (recentOf a) (recent-few a (g .left)))
 
     -- the stack has room for the limit
     whole : length stack ≡ maxExtents
-    whole = rw es (stack-length (recentOf a) (recent-few a (g .left)))
+    whole = rw es (padded-length (recentOf a) (recent-few a (g .left)))
 
     -- as many counts as extents
     pub two-size : length two ≡ maxExtents

@@ -6,9 +6,9 @@ use mathlib.Core.List.{List, [], _∷_}
 use mathlib.Core.Bool.{true, false}
 use lib.ListN.{length, drop, getD, set, drop-of-length-le, length-append, length-set}
 use Rattle.reuse.specs.Lists.{mem, outside}
-use Rattle.reuse.specs.Rows.{putAt}
-use Rattle.reuse.proofs.Slices.{next-word}
-use Rattle.reuse.proofs.Puts.{put-none, put-cons, put-append}
+use Rattle.reuse_rows.specs.Rows.{putAt}
+use Rattle.reuse_rows.proofs.Slices.{next-word}
+use Rattle.reuse_rows.proofs.Puts.{put-none, put-cons, put-append}
 use Rattle.summary.specs.Rows.{beside}
 
 -- the words passed that do not stand in k are put; what is left is still to be put

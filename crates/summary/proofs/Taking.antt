@@ -6,19 +6,19 @@ use native.Mathlib.Numerals.{add-one}
 use mathlib.Core.List.{List, [], _∷_, _++_, map, reverse}
 use lib.ListN.{length, take, getD, set, length-set}
 use lib.Seq.{take-suc, take-all, take-suc-set}
-use Rattle.reuse.specs.declared.Place.{Place}
-use Rattle.reuse.specs.declared.Place.the-variants.{Cold, Depth, Full}
+use Rattle.reuse_engine.specs.declared.Place.{Place}
+use Rattle.reuse_engine.specs.declared.Place.the-variants.{Cold, Depth, Full}
 use Rattle.reuse.specs.Limits.{maxExtents}
 use Rattle.reuse.specs.Lists.{mem, firsts, cleanup, distinct, from}
 use Rattle.reuse.specs.Lru.{at, depth, stack as lruStack, reuses, countAt}
-use Rattle.reuse.specs.Engine.{placeOf, leftBy}
+use Rattle.reuse_engine.specs.Engine.{placeOf, leftBy}
 use Rattle.reuse.specs.Summary.{words, histogram, summaryOf}
 use Rattle.reuse.proofs.Lists.{by-test, firsts-known, firsts-new}
 use Rattle.reuse.proofs.Stack.{stack-law, mem-stack}
 use Rattle.reuse.proofs.Depth.{cold-absent, depth-absent}
 use Rattle.reuse.proofs.Counts.{take-from}
-use Rattle.reuse.proofs.Engine.{place-depth, place-cold, place-room}
-use Rattle.reuse.proofs.Runs.{held-fits}
+use Rattle.reuse_engine.proofs.Engine.{place-depth, place-cold, place-room}
+use Rattle.reuse_engine.proofs.Runs.{held-fits}
 use Rattle.reuse.proofs.Traces.{held-count, full-count}
 use Rattle.summary.specs.Rows.{Counted}
 use Rattle.summary.specs.Tracing.{Blank, Taken}

@@ -10,7 +10,7 @@ use lib.Seq.{getD-set-same, getD-set-other}
 use borrow.Author.Tests.{eqb-true, eqb-false, ltb-true, ltb-false}
 use Rattle.reuse.specs.Lists.{mem, sum, outside}
 use Rattle.reuse.proofs.Lists.{by-test}
-use Rattle.reuse.proofs.Slices.{next-word}
+use Rattle.reuse_rows.proofs.Slices.{next-word}
 use Rattle.summary.specs.Rows.{Added}
 
 -- t is the sum of the words passed

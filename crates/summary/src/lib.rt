@@ -3,7 +3,6 @@ mod joining;
 mod rows;
 mod tracing;
 
-use reuse::tables;
 ghost use mathlib.Core.Path.{_≡_};
 ghost use Rattle.reuse.specs.Summary.{wellFormed};
 ghost use Rattle.summary.specs.Calls.{joinCall, traceCall, missesCall, shareOf, shareCall};
@@ -52,10 +51,10 @@ pub fn well_formed(words: &[u32]) -> bool
     }
     let recent = 2 + v;
     let counts = recent + v;
-    if !tables::all_distinct(&words[2..recent]) {
+    if !reuse_tables::all_distinct(&words[2..recent]) {
         return false;
     }
-    if !tables::all_in(&words[2..recent], &words[recent..counts]) {
+    if !reuse_tables::all_in(&words[2..recent], &words[recent..counts]) {
         return false;
     }
     v as u64 + rows::total(&words[counts..]) == reads as u64

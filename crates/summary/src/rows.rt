@@ -1,11 +1,11 @@
 // Rows of words: the sums of a summary's fields, and words put into a row.
-use reuse::tables;
+
 ghost use mathlib.Core.Path.{_≡_};
 ghost use Prim.Native.Nat.{ℕ, _+_, _≤_, _<_, _^_};
 ghost use lib.ListN.{length, getD};
 ghost use Rattle.reuse.specs.Lists.{sum, outside};
 ghost use Rattle.reuse.specs.Summary.{hitsOf};
-ghost use Rattle.reuse.specs.Rows.{putAt};
+ghost use Rattle.reuse_rows.specs.Rows.{putAt};
 ghost use Rattle.summary.specs.Rows.{beside, Added, Given};
 
 // The sum of at most 256 words.
@@ -42,11 +42,11 @@ pub fn hits(words: &[u32], size: u32) -> u32
 pub fn count_outside(known: &[u32], s: &[u32]) -> usize
     ensures { λ r. ⌜ r ≡ length (outside (now (known .entry)) (now (s .entry))) ⌝ }
 {
-    let table = tables::hints(known);
+    let table = reuse_tables::hints(known);
     let mut n: usize = 0;
     let mut i: usize = 0;
     while i < s.len() {
-        if !tables::known(known, &table, s[i]) {
+        if !reuse_tables::known(known, &table, s[i]) {
             n = n + 1;
         }
         i = i + 1;
@@ -59,7 +59,7 @@ pub fn put(out: &mut [u32], at: usize, s: &[u32]) -> usize
     requires { ⌜ at + length (now s) ≤ length (now out) ⌝ }
     ensures { λ r. ⌜ (r ≡ at + length (now (s .entry))) × (now (out .exit) ≡ putAt (now (out .entry)) at (now (s .entry))) ⌝ }
 {
-    reuse::rows::put(out, at, s);
+    reuse_rows::put(out, at, s);
     at + s.len()
 }
 
@@ -68,12 +68,12 @@ pub fn put_outside(out: &mut [u32], at: usize, known: &[u32], s: &[u32]) -> usiz
     requires { ⌜ at + length (outside (now known) (now s)) ≤ length (now out) ⌝ }
     ensures { λ r. ⌜ (r ≡ at + length (outside (now (known .entry)) (now (s .entry)))) × (now (out .exit) ≡ putAt (now (out .entry)) at (outside (now (known .entry)) (now (s .entry)))) ⌝ }
 {
-    let table = tables::hints(known);
+    let table = reuse_tables::hints(known);
     let mut n = at;
     let mut i: usize = 0;
     while i < s.len() {
         let x = s[i];
-        if !tables::known(known, &table, x) {
+        if !reuse_tables::known(known, &table, x) {
             out[n] = x;
             n = n + 1;
         }

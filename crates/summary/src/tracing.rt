@@ -1,8 +1,8 @@
 // The parts of a trace's summary: one pass over the trace, and the words written out.
 use crate::rows;
-use reuse::Place;
+use reuse_engine::Place;
 ghost use mathlib.Core.Path.{_≡_};
-ghost use Rattle.reuse.specs.Rows.{putAt};
+ghost use Rattle.reuse_rows.specs.Rows.{putAt};
 ghost use Rattle.reuse.specs.Summary.{words};
 ghost use Rattle.summary.specs.Tracing.{Blank, Taken, Writable};
 
@@ -16,7 +16,7 @@ pub fn take(trace: &[u32], stack: &mut [u32], first: &mut [u32], hist: &mut [u32
     let mut i: usize = 0;
     while i < trace.len() {
         let x = trace[i];
-        let place = reuse::touch(stack, held, x);
+        let place = reuse_engine::touch(stack, held, x);
         match place {
             Place::Cold => {
                 first[held] = x;

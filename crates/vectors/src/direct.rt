@@ -128,7 +128,7 @@ fn one_call(seed: u64, count: Count) -> Count {
     words::paint(&mut buffer, seed);
     let reads = words::front(&log, rng::below(seed, 90040, 301));
     let n = answers::of_written(summary::of_trace(reads, &mut buffer));
-    let v = words::narrow(reuse::extents_of(reads));
+    let v = words::narrow(reuse_tables::extents_of(reads));
     let a = count.tally(n == length_of(reads));
     let b = a.tally(v == words::get(&buffer, 1));
     let c = b.tally(words::kept(&buffer, answers::past(n), seed));

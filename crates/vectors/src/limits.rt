@@ -36,7 +36,7 @@ fn one_extents(seed: u64, count: Count) -> Count {
     let answer = joined::unless(over, 9, direct::length_of(whole));
     let c = calls::join(prefix, words::front(&b, m), answer, seed, count);
     let d = calls::of_trace(whole, answer, seed, c);
-    let e = d.tally((256 < reuse::extents_of(whole)) == over);
+    let e = d.tally((256 < reuse_tables::extents_of(whole)) == over);
     calls::after(prefix, part, joined::unless(over, 9, 200), seed, e)
 }
 

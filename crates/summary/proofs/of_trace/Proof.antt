@@ -7,7 +7,7 @@ use Rattle.reuse.specs.Limits.{maxExtents}
 use Rattle.reuse.specs.Lists.{firsts}
 use Rattle.reuse.proofs.Sums.{getD-zeros}
 use Rattle.reuse.proofs.Traces.{extents-exact, extents-within, extents-over}
-use Rattle.reuse.specs.Rows.{putAt}
+use Rattle.reuse_rows.specs.Rows.{putAt}
 use Rattle.summary.proofs.Calls.{trace-refused-reads, trace-refused-extents, trace-refused-room, traced}
 use Rattle.summary.proofs.Taking.{taken-words}
 use borrow.Author.Needs.{needs}

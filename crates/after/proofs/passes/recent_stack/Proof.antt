@@ -1,6 +1,6 @@
 -- `after::passes::recent_stack` meets its contract.
 use mathlib.Core.Path.{ap, _∙_}
-use Rattle.reuse.specs.Engine.{stackWords}
+use Rattle.reuse_rows.specs.Rows.{padded}
 use Rattle.summary.proofs.Fields.{recent-part}
 use borrow.Author.Needs.{needs}
 use Rattle.after.proofs.passes.recent_stack.Statement.{statement}
@@ -18,23 +18,23 @@ add-recent c = search needs
 add-counts : tie.Need-add-counts
 add-counts c = search needs
 
-mul-stack-of : tie.Need-mul-stack-of
-mul-stack-of c = search needs
+mul-padded : tie.Need-mul-padded
+mul-padded c = search needs
 
-sub-stack-of : tie.Need-sub-stack-of
-sub-stack-of c = search needs
+sub-padded : tie.Need-sub-padded
+sub-padded c = search needs
 
-part-stack-of-start : tie.Need-part-stack-of-start
-part-stack-of-start c = search needs
+part-padded-start : tie.Need-part-padded-start
+part-padded-start c = search needs
 
-part-stack-of-end : tie.Need-part-stack-of-end
-part-stack-of-end c = search needs
+part-padded-end : tie.Need-part-padded-end
+part-padded-end c = search needs
 
-stack-of-requires : tie.Need-stack-of-requires
-stack-of-requires c κs = search needs
+padded-requires : tie.Need-padded-requires
+padded-requires c κs = search needs
 
 returns : tie.Need-returns
-returns c = c .stack-of .ensures ∙ ap stackWords (recent-part (c .before .before .before .before .args .prefix .now))
+returns c = c .padded .ensures ∙ ap padded (recent-part (c .before .before .before .before .args .prefix .now))
 
 pub recent-stack-spec : {M : Type 1} → statement M
 recent-stack-spec =
@@ -44,9 +44,9 @@ recent-stack-spec =
     cast-v
     add-recent
     add-counts
-    mul-stack-of
-    sub-stack-of
-    part-stack-of-start
-    part-stack-of-end
-    stack-of-requires
+    mul-padded
+    sub-padded
+    part-padded-start
+    part-padded-end
+    padded-requires
     returns)

@@ -4,7 +4,7 @@ use Prim.Native.Nat.{_-_}
 use native.Mathlib.Omega.{arith}
 use mathlib.Core.Logic.{⊎-elim}
 use lib.ListN.{length}
-use Rattle.reuse.proofs.Runs.{held-fits}
+use Rattle.reuse_engine.proofs.Runs.{held-fits}
 use Rattle.after.proofs.Tracing.{Tracing, trace-start, trace-cold, trace-known, trace-end, written-length, not-full, not-bad, depth-small}
 use borrow.Author.Needs.{needs}
 use Rattle.after.proofs.passes.trace.Statement.{statement}

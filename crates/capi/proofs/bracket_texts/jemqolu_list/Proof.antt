@@ -4,7 +4,7 @@ use Prim.Native.Nat.{_≤_}
 use native.Mathlib.Omega.{arith}
 use lib.ListN.{length, take}
 use lib.Seq.{length-take-le}
-use Rattle.reuse.specs.Rows.{putAt}
+use Rattle.reuse_rows.specs.Rows.{putAt}
 use Rattle.summary.specs.Calls.{Wrote}
 use Rattle.texts.specs.Logs.{logOf}
 use Rattle.listing.specs.declared.Verdict.the-variants.{Listed}

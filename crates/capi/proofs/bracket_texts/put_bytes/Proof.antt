@@ -2,7 +2,7 @@
 use Prim.Native.Nat.{_-_}
 use native.Mathlib.Omega.{arith}
 use lib.ListN.{length}
-use Rattle.reuse.proofs.Puts.{Copying, copy-start, copy-turn, copy-end, placed-fits}
+use Rattle.reuse_rows.proofs.Puts.{Copying, copy-start, copy-turn, copy-end, placed-fits}
 use mathlib.Core.Path.{_≡_, _∙_}
 use Prim.Native.Nat.{_+_}
 use borrow.Author.Needs.{needs}

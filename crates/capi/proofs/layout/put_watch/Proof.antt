@@ -1,6 +1,6 @@
 -- `capi::layout::put_watch` meets its contract.
 use mathlib.Core.Path.{_∙_}
-use Rattle.reuse.proofs.Puts.{placed-fits}
+use Rattle.reuse_rows.proofs.Puts.{placed-fits}
 use Rattle.capi.specs.Layout.{watchLaid}
 use borrow.Author.Needs.{needs}
 use Rattle.capi.proofs.layout.put_watch.Statement.{statement}

@@ -1,6 +1,6 @@
 -- `capi::sessions::jemqolu_session_new` meets its contract.
 use mathlib.Core.Path.{sym, ap, _∙_}
-use Rattle.reuse.specs.Rows.{putAt}
+use Rattle.reuse_rows.specs.Rows.{putAt}
 use Rattle.summary.specs.Calls.{Wrote}
 use Rattle.capi.specs.Answers.{counted}
 use Rattle.capi.specs.Layout.{sessionLaid}

@@ -4,10 +4,10 @@ use Prim.Native.Nat.{ℕ, _+_, _-_, _≤_, _<_}
 use native.Mathlib.Omega.{arith}
 use mathlib.Core.List.{List}
 use lib.ListN.{length, getD}
-use Rattle.reuse.specs.Engine.{placeOf, leftBy}
-use Rattle.reuse.specs.declared.Place.{Place}
-use Rattle.reuse.specs.declared.Place.the-variants.{Cold, Depth}
-use Rattle.reuse.proofs.Engine.{place-counts}
+use Rattle.reuse_engine.specs.Engine.{placeOf, leftBy}
+use Rattle.reuse_engine.specs.declared.Place.{Place}
+use Rattle.reuse_engine.specs.declared.Place.the-variants.{Cold, Depth}
+use Rattle.reuse_engine.proofs.Engine.{place-counts}
 use Rattle.listing.specs.Listers.{Tallied, takenIn}
 use Rattle.listing.proofs.TallyRows.{stop-done, row-large, row-many, row-full, tallied-new, new-done, known-place, known-done}
 use borrow.Author.Needs.{needs}

@@ -4,7 +4,7 @@ use native.Mathlib.Omega.{arith}
 use lib.ListN.{replicate}
 use Rattle.reuse.specs.Limits.{maxExtents}
 use Rattle.reuse.specs.Summary.{recentOf, countsOf}
-use Rattle.reuse.specs.Engine.{stackWords}
+use Rattle.reuse_rows.specs.Rows.{padded}
 use Rattle.reuse.proofs.Sums.{getD-zeros}
 use Rattle.summary.specs.Rows.{Added}
 use Rattle.summary.proofs.Fields.{first-part, recent-part, counts-part, counts-size}
@@ -14,8 +14,8 @@ use Rattle.summary.proofs.joining.counts.Statement.{statement}
 use Rattle.summary.proofs.joining.counts.Tie as tie
 
 -- R of A is in the stack
-stacked : (c : tie.After-stack-of) → c .stack-of .result ≡ stackWords (recentOf (c .before .before .before .before .before .before .args .a .now))
-stacked c = c .stack-of .ensures ∙ ap stackWords (recent-part (c .before .before .before .before .before .before .args .a .now))
+stacked : (c : tie.After-padded) → c .padded .result ≡ padded (recentOf (c .before .before .before .before .before .before .args .a .now))
+stacked c = c .padded .ensures ∙ ap padded (recent-part (c .before .before .before .before .before .before .args .a .now))
 
 -- H of A is counted
 once-added : (c : tie.After-add) → Added (replicate maxExtents 0) (countsOf (c .before .before .before .before .before .before .before .before .before .args .a .now)) (c .add .last .0)
@@ -49,20 +49,20 @@ add-ha c = search needs
 add-hb : tie.Need-add-hb
 add-hb c = search needs
 
-mul-stack-of : tie.Need-mul-stack-of
-mul-stack-of c = search needs
+mul-padded : tie.Need-mul-padded
+mul-padded c = search needs
 
-sub-stack-of : tie.Need-sub-stack-of
-sub-stack-of c = search needs
+sub-padded : tie.Need-sub-padded
+sub-padded c = search needs
 
-part-stack-of-start : tie.Need-part-stack-of-start
-part-stack-of-start c = search needs
+part-padded-start : tie.Need-part-padded-start
+part-padded-start c = search needs
 
-part-stack-of-end : tie.Need-part-stack-of-end
-part-stack-of-end c = search needs
+part-padded-end : tie.Need-part-padded-end
+part-padded-end c = search needs
 
-stack-of-requires : tie.Need-stack-of-requires
-stack-of-requires c κs = search needs
+padded-requires : tie.Need-padded-requires
+padded-requires c κs = search needs
 
 slice-aggregate-add : tie.Need-slice-aggregate-add
 slice-aggregate-add c = search needs
@@ -149,11 +149,11 @@ counts-spec =
     add-rb
     add-ha
     add-hb
-    mul-stack-of
-    sub-stack-of
-    part-stack-of-start
-    part-stack-of-end
-    stack-of-requires
+    mul-padded
+    sub-padded
+    part-padded-start
+    part-padded-end
+    padded-requires
     slice-aggregate-add
     mul-add
     sub-add

@@ -1,6 +1,6 @@
 -- `summary::rows::put` meets its contract.
 use mathlib.Core.Path.{refl, _∙_}
-use Rattle.reuse.proofs.Puts.{placed-fits}
+use Rattle.reuse_rows.proofs.Puts.{placed-fits}
 use borrow.Author.Needs.{needs}
 use Rattle.summary.proofs.rows.put.Statement.{statement}
 use Rattle.summary.proofs.rows.put.Tie as tie

@@ -5,7 +5,7 @@ use Prim.Native.Nat.{_-_}
 use native.Mathlib.Omega.{arith}
 use lib.ListN.{length}
 use borrow.Author.Tests.{not-true, not-false}
-use Rattle.reuse.proofs.Lookups.{looked-up}
+use Rattle.reuse_tables.proofs.Lookups.{looked-up}
 use Rattle.summary.proofs.Puts.{Putting, put-start, put-more, put-same, put-room, put-end}
 use borrow.Author.Needs.{needs}
 use Rattle.summary.proofs.rows.put_outside.Statement.{statement}

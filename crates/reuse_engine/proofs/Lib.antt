@@ -1,0 +1,4 @@
+pub mod Passes
+pub mod Engine
+pub mod Runs
+pub mod Traces
