@@ -1,5 +1,5 @@
 // The lines of a log text, each without its byte 10.
-use texts::Found;
+use texts_pieces::Found;
 ghost use mathlib.Core.Path.{_≡_};
 ghost use Rattle.texts.specs.Logs.{traceWord, rowOf};
 ghost use Rattle.texts.specs.Words.{after};
@@ -22,14 +22,14 @@ pub enum Head {
 pub fn row_of(line: &[u8]) -> Row
     ensures { λ r. ⌜ r ≡ rowFound (rowOf (now (line .entry))) ⌝ }
 {
-    if !texts::word_at(line, 0, b" (read ") {
+    if !texts_pieces::word_at(line, 0, b" (read ") {
         return Row::Bad;
     }
-    let Found::Value(extent, end) = texts::number_at(line, 7) else {
+    let Found::Value(extent, end) = texts_pieces::number_at(line, 7) else {
         return Row::Bad;
     };
     let left = line.len() - end;
-    if texts::run_of(line, end, 41, left) != left {
+    if texts_pieces::run_of(line, end, 41, left) != left {
         return Row::Bad;
     }
     if left == 1 {
@@ -45,7 +45,7 @@ pub fn row_of(line: &[u8]) -> Row
 pub fn head_of(line: &[u8]) -> Head
     ensures { λ r. ⌜ r ≡ headFound (after traceWord (now (line .entry))) ⌝ }
 {
-    if !texts::word_at(line, 0, b"(trace") {
+    if !texts_pieces::word_at(line, 0, b"(trace") {
         return Head::Bad;
     }
     if line.len() == 6 {

@@ -1,5 +1,5 @@
 // The lines of a plan text.
-use texts::Found;
+use texts_pieces::Found;
 ghost use mathlib.Core.Path.{_≡_};
 ghost use Prim.Native.Nat.{_+_, _≤_};
 ghost use lib.ListN.{length, drop};
@@ -60,10 +60,10 @@ fn seg_at(s: &[u8], at: usize) -> Line
     ensures is { λ r. ⌜ placeOf (now (s .entry)) r ≡ numberAt (numberOf (drop at (now (s .entry)))) ⌝ }
     ensures within { λ r. ⌜ LineWithin at (length (now (s .entry))) r ⌝ }
 {
-    let Found::Value(reads, end) = texts::number_at(s, at) else {
+    let Found::Value(reads, end) = texts_pieces::number_at(s, at) else {
         return Line::Bad;
     };
-    let run = texts::run_of(s, end, 41, s.len() - end);
+    let run = texts_pieces::run_of(s, end, 41, s.len() - end);
     if run == 0 {
         return Line::Bad;
     }
@@ -76,10 +76,10 @@ fn form_at(s: &[u8], at: usize) -> Line
     ensures is { λ r. ⌜ placeOf (now (s .entry)) r ≡ formAt (drop at (now (s .entry))) ⌝ }
     ensures within { λ r. ⌜ LineWithin at (length (now (s .entry))) r ⌝ }
 {
-    if texts::word_at(s, at, b"(join") {
+    if texts_pieces::word_at(s, at, b"(join") {
         return join_end(s, at + 5);
     }
-    if texts::word_at(s, at, b"(seg ") {
+    if texts_pieces::word_at(s, at, b"(seg ") {
         return seg_at(s, at + 5);
     }
     Line::Bad
@@ -91,7 +91,7 @@ pub fn line_at(s: &[u8], at: usize, under: usize) -> Line
     ensures is { λ r. ⌜ placeOf (now (s .entry)) r ≡ lineAt under (drop at (now (s .entry))) ⌝ }
     ensures within { λ r. ⌜ LineWithin at (length (now (s .entry))) r ⌝ }
 {
-    if texts::run_of(s, at, 32, under) != under {
+    if texts_pieces::run_of(s, at, 32, under) != under {
         return Line::Bad;
     }
     form_at(s, at + under)

@@ -1,3 +1,4 @@
 pub mod Slices
 pub mod Padding
 pub mod Puts
+pub mod Totals

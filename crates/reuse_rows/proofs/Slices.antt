@@ -1,14 +1,15 @@
 -- Turns of small loops over a slice.
-use mathlib.Core.Path.{_≡_, refl, sym, _∙_}
+use mathlib.Core.Path.{_≡_, refl, sym, ap, _∙_}
 use Prim.Native.Nat.{ℕ, _+_, _-_, _≤_, _<_}
 use native.Mathlib.Omega.{arith}
 use native.Mathlib.Numerals.{add-one}
 use mathlib.Core.List.{List, _∷_}
-use mathlib.Core.Bool.{Bool, true, false, _||_, or-true, or-false}
+use mathlib.Core.Bool.{Bool, true, false, _||_, _&&_, or-true, or-false, and-true, and-false}
 use lib.ListN.{length, take, drop, getD, drop-of-length-le, length-drop}
 use lib.Seq.{drop-cons, take-all}
 use borrow.Author.Tests.{eq-eqb, ne-eqb}
 use Rattle.reuse.specs.Lists.{mem}
+use Rattle.reuse_rows.specs.Rows.{blank}
 
 -- what is left, from the next word on
 pub next-word : (s : List ℕ) (i : ℕ) → i < length s → drop i s ≡ getD s i 0 ∷ drop (i + 1) s
@@ -49,3 +50,30 @@ module _ (s : List ℕ) (x : ℕ) where
     pub look-end : length s ≤ i → found ≡ mem x s
     unfolding mem
     look-end l = sym (sym (h .same) ∙ rw (drop-of-length-le s {i = i} l) (or-false found))
+
+-- a flag that is down at the first fault: it, and the test of what is left, are the test of all
+abbrev pub Passing : Bool → Bool → Bool → Type 0
+Passing flag rest all = flag && rest ≡ all
+
+-- one more that passes
+pub passed : (flag : Bool) {rest more all : Bool} → Passing flag rest all → rest ≡ more → Passing flag more all
+passed flag h e = ap (λ (b : Bool). flag && b) (sym e) ∙ h
+
+-- one that fails
+pub failed : (flag : Bool) {rest all : Bool} → Passing flag rest all → rest ≡ false → false ≡ all
+failed flag h e = sym (ap (λ (b : Bool). flag && b) e ∙ and-false flag) ∙ h
+
+-- nothing is left
+pub ended : (flag : Bool) {rest all : Bool} → Passing flag rest all → rest ≡ true → flag ≡ all
+ended flag h e = sym (ap (λ (b : Bool). flag && b) e ∙ and-true flag) ∙ h
+
+module _ (s : List ℕ) (i : ℕ) (l : i < length s) where
+  -- one more word that is 0
+  pub zero-hit : getD s i 0 ≡ 0 → blank (drop i s) ≡ blank (drop (i + 1) s)
+  unfolding blank
+  zero-hit e = ap blank (next-word s i l) ∙ simp (eq-eqb (getD s i 0) 0 e)
+
+  -- a word that is not
+  pub zero-miss : (getD s i 0 ≡ 0 → ⊥) → blank (drop i s) ≡ false
+  unfolding blank
+  zero-miss e = ap blank (next-word s i l) ∙ simp (ne-eqb (getD s i 0) 0 e)

@@ -1,10 +1,15 @@
--- Rows of words: words put into one, and a row as long as the limit.
+-- Rows of words: one that is all 0, words put into one, and a row as long as the limit.
 use Prim.Native.Nat.{ℕ, _+_}
-use mathlib.Core.List.{List, _++_}
-use mathlib.Core.Bool.{cond}
-use lib.Dec.{leb}
+use mathlib.Core.List.{List, [], _∷_, _++_}
+use mathlib.Core.Bool.{Bool, true, cond, _&&_}
+use lib.Dec.{eqb, leb}
 use lib.ListN.{length, take, drop, replicate}
 use Rattle.reuse.specs.Limits.{maxExtents}
+
+-- all words are 0
+unfoldable pub blank : List ℕ → Bool
+blank [] = true
+blank (x ∷ xs) = eqb x 0 && blank xs
 
 -- the words l from place `at` on, the others as they were
 unfoldable pub putAt : List ℕ → ℕ → List ℕ → List ℕ

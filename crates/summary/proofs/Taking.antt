@@ -19,7 +19,7 @@ use Rattle.reuse.proofs.Depth.{cold-absent, depth-absent}
 use Rattle.reuse.proofs.Counts.{take-from}
 use Rattle.reuse_engine.proofs.Engine.{place-depth, place-cold, place-room}
 use Rattle.reuse_engine.proofs.Runs.{held-fits}
-use Rattle.reuse.proofs.Traces.{held-count, full-count}
+use Rattle.reuse_engine.proofs.Traces.{held-count, full-count}
 use Rattle.summary.specs.Rows.{Counted}
 use Rattle.summary.specs.Tracing.{Blank, Taken}
 use Rattle.summary.proofs.Fields.{front-part}

@@ -4,7 +4,6 @@ pub mod Feeding
 pub mod Faults
 pub mod Words
 pub mod Positions
-pub mod Pieces
 pub mod PlanLines
 pub mod PlanRuns
 pub mod PlanSound

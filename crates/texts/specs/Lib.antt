@@ -2,7 +2,6 @@ pub mod Bytes
 pub mod Limits
 pub mod Digits
 pub mod Words
-pub mod Pieces
 pub mod Lines
 pub mod Plans
 pub mod PlanTexts

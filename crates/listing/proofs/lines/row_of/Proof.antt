@@ -6,8 +6,8 @@ use lib.ListN.{length, drop}
 use Rattle.texts.specs.Digits.{value, numberOf}
 use Rattle.texts.specs.Words.{wordAt}
 use Rattle.texts.specs.Logs.{readWord}
-use Rattle.texts.specs.declared.Found.{Found}
-use Rattle.texts.proofs.Pieces.{numberIn, NumberWithin, found-there}
+use Rattle.texts_pieces.specs.declared.Found.{Found}
+use Rattle.texts_pieces.proofs.Pieces.{numberIn, NumberWithin, found-there}
 use Rattle.listing.proofs.LineLaws.{row-none, row-long, row-bad, row-spoilt, row-read, row-last, row-more}
 use borrow.Author.Tests.{not-true, not-false}
 use borrow.Author.Needs.{needs}

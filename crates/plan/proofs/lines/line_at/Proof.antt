@@ -2,7 +2,7 @@
 use Prim.Native.Nat.{_+_, _≤_}
 use native.Mathlib.Omega.{arith}
 use lib.ListN.{length}
-use Rattle.texts.proofs.Pieces.{run-within}
+use Rattle.texts_pieces.proofs.Pieces.{run-within}
 use Rattle.plan.proofs.Places.{line-from, line-bad, line-form}
 use borrow.Author.Needs.{needs}
 use Rattle.plan.proofs.lines.line_at.Statement.{statement}

@@ -4,8 +4,8 @@ use Prim.Native.Nat.{_+_, _-_, _≤_, _<_}
 use native.Mathlib.Omega.{arith}
 use lib.ListN.{length, drop}
 use Rattle.texts.specs.Digits.{value, numberOf}
-use Rattle.texts.specs.declared.Found.{Found}
-use Rattle.texts.proofs.Pieces.{run-within, numberIn, NumberWithin, found-there}
+use Rattle.texts_pieces.specs.declared.Found.{Found}
+use Rattle.texts_pieces.proofs.Pieces.{run-within, numberIn, NumberWithin, found-there}
 use Rattle.plan.proofs.Places.{line-from, number-none, brackets-none, brackets-some}
 use borrow.Author.Needs.{needs}
 use Rattle.plan.proofs.lines.seg_at.Statement.{statement}
