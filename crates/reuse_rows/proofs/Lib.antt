@@ -1,4 +1,5 @@
 pub mod Slices
 pub mod Padding
 pub mod Puts
+pub mod Filling
 pub mod Totals

@@ -11,11 +11,11 @@ use Rattle.reuse.specs.Lists.{sum}
 use Rattle.reuse.specs.Cache.{cacheMisses}
 use Rattle.reuse.specs.Summary.{words, summaryOf, readsOf, extentsOf, countsOf, hitsOf, missesOf}
 use Rattle.reuse.specs.Limits.{maxExtents, slotCount}
-use Rattle.summary.specs.declared.Written.{Written}
-use Rattle.summary.specs.declared.Written.the-variants.{Words, Refused}
-use Rattle.summary.specs.declared.MissCount.the-variants.{Misses}
-use Rattle.summary.specs.declared.ShareAnswer.the-variants.{Answered}
-use Rattle.summary.specs.Calls.{Wrote, wrote, shareOf}
+use Rattle.summary_calls.specs.declared.Written.{Written}
+use Rattle.summary_calls.specs.declared.Written.the-variants.{Words, Refused}
+use Rattle.summary_calls.specs.declared.MissCount.the-variants.{Misses}
+use Rattle.summary_calls.specs.declared.ShareAnswer.the-variants.{Answered}
+use Rattle.summary_calls.specs.Calls.{Wrote, wrote, shareOf}
 use Rattle.session.specs.declared.Session.{Session}
 use Rattle.session.specs.Sessions.{marks, extents, marked, stackOf, firstRow, sound}
 use Rattle.session.specs.Steps.{Wide}
