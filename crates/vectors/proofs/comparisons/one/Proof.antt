@@ -1,0 +1,66 @@
+-- `vectors::comparisons::one` is safe and ends.
+use Prim.Native.Nat.{_-_}
+use borrow.Author.Needs.{needs}
+use Rattle.vectors.proofs.comparisons.one.Statement.{statement}
+use Rattle.vectors.proofs.comparisons.one.Tie as tie
+
+abbrev Inv-loop : tie.InvT-loop
+Inv-loop reads sizes log c₀ i₀ c i = Unit {0}
+
+abbrev μ-loop : tie.MeasureT-loop
+μ-loop reads sizes log c₀ i₀ c i = 16 - i
+
+slice-aggregate-fill : tie.Need-slice-aggregate-fill Inv-loop μ-loop
+slice-aggregate-fill c = search needs
+
+fill-requires : tie.Need-fill-requires Inv-loop μ-loop
+fill-requires c κs = search needs
+
+loop-holds : tie.Need-loop-holds Inv-loop μ-loop
+loop-holds c = search needs
+
+slice-aggregate-front : tie.Need-slice-aggregate-front Inv-loop μ-loop
+slice-aggregate-front c = search needs
+
+front-requires : tie.Need-front-requires Inv-loop μ-loop
+front-requires c κs = search needs
+
+slice-aggregate-get : tie.Need-slice-aggregate-get Inv-loop μ-loop
+slice-aggregate-get c = search needs
+
+get-requires : tie.Need-get-requires Inv-loop μ-loop
+get-requires c κs = search needs
+
+at-size-requires : tie.Need-at-size-requires Inv-loop μ-loop
+at-size-requires c κs = search needs
+
+add-i : tie.Need-add-i Inv-loop μ-loop
+add-i c = search needs
+
+loop-less : tie.Need-loop-less Inv-loop μ-loop
+loop-less c = search needs
+
+loop-again : tie.Need-loop-again Inv-loop μ-loop
+loop-again c = search needs
+
+returns : tie.Need-returns Inv-loop μ-loop
+returns c = search needs
+
+pub one-spec : {M : Type 1} → statement M
+one-spec =
+    tie.close
+    (tie.spec
+    Inv-loop
+    μ-loop
+    slice-aggregate-fill
+    fill-requires
+    loop-holds
+    slice-aggregate-front
+    front-requires
+    slice-aggregate-get
+    get-requires
+    at-size-requires
+    add-i
+    loop-less
+    loop-again
+    returns)
