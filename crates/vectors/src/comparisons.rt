@@ -50,11 +50,6 @@ fn step(run: Run, size: u32, x: u32, hit: bool) -> Run {
     }
 }
 
-// The time of read i, from 1 on.
-fn time_of(i: usize) -> u32 {
-    std::num::wrapping_add_u32(words::narrow(i), 1)
-}
-
 // A log read by a session, by a watch on one size and by a simulated cache of that size.
 fn read_all(log: &[u32], size: u32, count: Count) -> Run {
     let mut held = [0u32; MAX_EXTENTS];
@@ -68,7 +63,8 @@ fn read_all(log: &[u32], size: u32, count: Count) -> Run {
     };
     for i in 0..log.len() {
         let x = log[i];
-        let hit = cache::read(&mut held, &mut last, places, x, time_of(i));
+        let time = std::num::wrapping_add_u32(words::narrow(i), 1);
+        let hit = cache::read(&mut held, &mut last, places, x, time);
         run = step(run, size, x, hit);
     }
     run

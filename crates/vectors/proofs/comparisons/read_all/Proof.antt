@@ -28,8 +28,11 @@ mul-x c = search needs
 shared-slice-read-x : tie.Need-shared-slice-read-x Inv-loop μ-loop
 shared-slice-read-x c = search needs
 
-time-of-requires : tie.Need-time-of-requires Inv-loop μ-loop
-time-of-requires c κs = search needs
+narrow-requires : tie.Need-narrow-requires Inv-loop μ-loop
+narrow-requires c κs = search needs
+
+wrapping-add-u32-requires : tie.Need-wrapping-add-u32-requires Inv-loop μ-loop
+wrapping-add-u32-requires c κs = search needs
 
 read-requires : tie.Need-read-requires Inv-loop μ-loop
 read-requires c κs = search needs
@@ -61,7 +64,8 @@ read-all-spec =
     loop-holds
     mul-x
     shared-slice-read-x
-    time-of-requires
+    narrow-requires
+    wrapping-add-u32-requires
     read-requires
     step-requires
     add-i
