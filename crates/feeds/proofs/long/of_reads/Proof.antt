@@ -1,14 +1,14 @@
--- `feeds::long::of_lines` is safe and ends.
+-- `feeds::long::of_reads` is safe and ends.
 use Prim.Native.Nat.{_-_}
 use borrow.Author.Needs.{needs}
-use Rattle.feeds.proofs.long.of_lines.Statement.{statement}
-use Rattle.feeds.proofs.long.of_lines.Tie as tie
+use Rattle.feeds.proofs.long.of_reads.Statement.{statement}
+use Rattle.feeds.proofs.long.of_reads.Tie as tie
 
 abbrev Inv-loop : tie.InvT-loop
-Inv-loop n wanted lister₀ i₀ t7 t8 t9 lister i = Unit {0}
+Inv-loop name reads lister₀ i₀ t10 t11 lister i = Unit {0}
 
 abbrev μ-loop : tie.MeasureT-loop
-μ-loop n wanted lister₀ i₀ t7 t8 t9 lister i = n - i
+μ-loop name reads lister₀ i₀ t10 t11 lister i = reads - i
 
 new-requires : tie.Need-new-requires Inv-loop μ-loop
 new-requires c κs = search needs
@@ -37,23 +37,29 @@ loop-less c = search needs
 loop-again : tie.Need-loop-again Inv-loop μ-loop
 loop-again c = search needs
 
-slice-aggregate-ended : tie.Need-slice-aggregate-ended Inv-loop μ-loop
-slice-aggregate-ended c = search needs
+slice-aggregate-feed-3 : tie.Need-slice-aggregate-feed-3 Inv-loop μ-loop
+slice-aggregate-feed-3 c = search needs
 
-slice-aggregate-ended-2 : tie.Need-slice-aggregate-ended-2 Inv-loop μ-loop
-slice-aggregate-ended-2 c = search needs
+feed-requires-3 : tie.Need-feed-requires-3 Inv-loop μ-loop
+feed-requires-3 c κs = search needs
 
-none-requires : tie.Need-none-requires Inv-loop μ-loop
-none-requires c κs = search needs
+finish-requires : tie.Need-finish-requires Inv-loop μ-loop
+finish-requires c κs = search needs
 
-ended-requires : tie.Need-ended-requires Inv-loop μ-loop
-ended-requires c κs = search needs
+slice-aggregate-front : tie.Need-slice-aggregate-front Inv-loop μ-loop
+slice-aggregate-front c = search needs
+
+front-requires : tie.Need-front-requires Inv-loop μ-loop
+front-requires c κs = search needs
+
+output-requires : tie.Need-output-requires Inv-loop μ-loop
+output-requires c κs = search needs
 
 returns : tie.Need-returns Inv-loop μ-loop
 returns c = search needs
 
-pub of-lines-spec : {M : Type 1} → statement M
-of-lines-spec =
+pub of-reads-spec : {M : Type 1} → statement M
+of-reads-spec =
     tie.close
     (tie.spec
     Inv-loop
@@ -67,8 +73,10 @@ of-lines-spec =
     add-i
     loop-less
     loop-again
-    slice-aggregate-ended
-    slice-aggregate-ended-2
-    none-requires
-    ended-requires
+    slice-aggregate-feed-3
+    feed-requires-3
+    finish-requires
+    slice-aggregate-front
+    front-requires
+    output-requires
     returns)
