@@ -11,8 +11,8 @@ const FIRST: usize = 4740;
 // Two texts end to end: 256 extents and then the first of them again, and 257 extents.
 fn of_extents(texts: &[u8]) {
     if FIRST <= texts.len() {
-        report::long(b"256 extents", &texts[0..FIRST]);
-        report::long(b"257 extents", &texts[FIRST..]);
+        report::text(b"256 extents", &texts[0..FIRST]);
+        report::text(b"257 extents", &texts[FIRST..]);
     }
 }
 

@@ -3,6 +3,9 @@ ghost use Prim.Native.Nat.{_≤_};
 use listing::Lister;
 use listing::Page;
 
+// The most bytes of a text that is cut into three pieces.
+const SHORT: usize = 100;
+
 // The page of a text fed byte by byte.
 pub fn by_bytes(text: &[u8]) -> Page {
     let mut lister = Lister::new();
@@ -46,16 +49,19 @@ fn cut_at(text: &[u8], b: usize, wanted: &[u8], agree: bool) -> u64
     n
 }
 
-// The same of all cuttings into two pieces.
-pub fn twos(text: &[u8], wanted: &[u8], agree: bool) -> u64 {
-    cut_at(text, text.len(), wanted, agree)
-}
-
 // The same of all cuttings into three pieces.
-pub fn threes(text: &[u8], wanted: &[u8], agree: bool) -> u64 {
+fn threes(text: &[u8], wanted: &[u8], agree: bool) -> u64 {
     let mut n: u64 = 0;
     for b in 0..=text.len() {
         n = std::num::wrapping_add_u64(n, cut_at(text, b, wanted, agree));
     }
     n
+}
+
+// The same of all cuttings of a text, into three pieces where it is short and into two where it is long.
+pub fn cuttings(text: &[u8], wanted: &[u8], agree: bool) -> u64 {
+    if SHORT < text.len() {
+        return cut_at(text, text.len(), wanted, agree);
+    }
+    threes(text, wanted, agree)
 }

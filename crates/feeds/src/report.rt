@@ -17,26 +17,14 @@ fn counts(agree: u64, differ: u64) {
     io::write_all(STDOUT_FILENO, b" differ\n");
 }
 
-// A short text: its output fed byte by byte, and the cuttings into three pieces.
-pub fn short(name: &[u8], text: &[u8]) {
+// A text: its output fed byte by byte, and its cuttings.
+pub fn text(name: &[u8], text: &[u8]) {
     let page = pieces::by_bytes(text);
     let bytes = page.bytes;
     let wanted = pieces::front(&bytes, page.len);
     output(name, wanted);
     counts(
-        pieces::threes(text, wanted, true),
-        pieces::threes(text, wanted, false),
-    );
-}
-
-// A long text: its output fed byte by byte, and the cuttings into two pieces.
-pub fn long(name: &[u8], text: &[u8]) {
-    let page = pieces::by_bytes(text);
-    let bytes = page.bytes;
-    let wanted = pieces::front(&bytes, page.len);
-    output(name, wanted);
-    counts(
-        pieces::twos(text, wanted, true),
-        pieces::twos(text, wanted, false),
+        pieces::cuttings(text, wanted, true),
+        pieces::cuttings(text, wanted, false),
     );
 }

@@ -1,4 +1,6 @@
 // What the calls answer, against the simulated cache.
+ghost use Prim.Native.Nat.{_≤_};
+ghost use lib.ListN.{length};
 use session::Answer;
 use session::Session;
 use summary::HitShare;
@@ -32,11 +34,18 @@ pub fn after(w: Watch, answer: Answer) -> Watch {
     }
 }
 
-// The words of a session's summary, or 0 where it is refused.
-pub fn summarize(session: Session, out: &mut [u32]) -> usize {
+// The number of words of a session's summary, or 0 where it is refused.
+pub fn summarize(session: Session, out: &mut [u32]) -> usize
+    ensures { λ r. ⌜ r ≤ length (now (out .exit)) ⌝ }
+{
     let answer = session.summary(out);
     match answer {
-        Written::Words(n) => n,
+        Written::Words(n) => {
+            if n <= out.len() {
+                return n;
+            }
+            0
+        }
         Written::Refused(_) => 0,
     }
 }

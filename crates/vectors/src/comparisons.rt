@@ -1,4 +1,5 @@
 // Logs read by sessions, by watches and by simulated caches of several sizes.
+ghost use Prim.Native.Nat.{_≤_};
 use crate::answers;
 use crate::cache;
 use crate::count::Count;
@@ -101,7 +102,7 @@ fn at_size(log: &[u32], size: u32, so_far: Compared) -> Compared {
     let all = read_all(log, size, so_far.hits);
     let session = all.session;
     let n = answers::summarize(session, &mut buffer);
-    let words = words::front(&buffer, n);
+    let words = &buffer[0..n];
     let reads = words::narrow(log.len());
     let misses = std::num::wrapping_sub_u32(reads, all.hits);
     let hits = all.compared;
@@ -114,7 +115,9 @@ fn at_size(log: &[u32], size: u32, so_far: Compared) -> Compared {
 }
 
 // One log at every size.
-fn one(reads: usize, so_far: Compared) -> Compared {
+fn one(reads: usize, so_far: Compared) -> Compared
+    requires { ⌜ reads ≤ 1200 ⌝ }
+{
     let sizes = [
         0u32,
         1,
@@ -137,7 +140,7 @@ fn one(reads: usize, so_far: Compared) -> Compared {
     logs::fill(&mut log, reads as u64);
     let mut c = so_far;
     for i in 0..SIZES {
-        c = at_size(words::front(&log, reads), words::get(&sizes, i), c);
+        c = at_size(&log[0..reads], words::get(&sizes, i), c);
     }
     c
 }

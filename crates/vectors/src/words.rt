@@ -22,11 +22,3 @@ pub fn narrow(n: usize) -> u32 {
     }
     4294967295
 }
-
-// The first n words, or none where there are fewer.
-pub fn front<'a>(s: &'a [u32], n: usize) -> &'a [u32] {
-    if n <= s.len() {
-        return &s[0..n];
-    }
-    &s[0..0]
-}

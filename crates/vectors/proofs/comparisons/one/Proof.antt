@@ -19,11 +19,14 @@ fill-requires c κs = search needs
 loop-holds : tie.Need-loop-holds Inv-loop μ-loop
 loop-holds c = search needs
 
-slice-aggregate-front : tie.Need-slice-aggregate-front Inv-loop μ-loop
-slice-aggregate-front c = search needs
+sub-at-size : tie.Need-sub-at-size Inv-loop μ-loop
+sub-at-size c = search needs
 
-front-requires : tie.Need-front-requires Inv-loop μ-loop
-front-requires c κs = search needs
+part-at-size-start : tie.Need-part-at-size-start Inv-loop μ-loop
+part-at-size-start c = search needs
+
+part-at-size-end : tie.Need-part-at-size-end Inv-loop μ-loop
+part-at-size-end c = search needs
 
 slice-aggregate-get : tie.Need-slice-aggregate-get Inv-loop μ-loop
 slice-aggregate-get c = search needs
@@ -55,8 +58,9 @@ one-spec =
     slice-aggregate-fill
     fill-requires
     loop-holds
-    slice-aggregate-front
-    front-requires
+    sub-at-size
+    part-at-size-start
+    part-at-size-end
     slice-aggregate-get
     get-requires
     at-size-requires
