@@ -29,11 +29,11 @@ fn log_of(reads: u64) -> Vec<u32> {
 /// The bytes that come in where a text is damaged at every place.
 const BYTES: &[u8; 10] = b" ()019\njs\0";
 
-/// Compares a text on a log of as many reads as its segs have, or of three where they have many, with what it needs lent
-/// and with nothing.
+/// Compares a text on a log of as many reads as its segs have, or of three where they have too many, with what it needs
+/// lent and with nothing.
 fn compare_alone(tally: &mut Tally, seen: &mut Seen, text: &[u8]) {
     let reads = plans::read(text).map_or(3, |plan| plan.reads());
-    let log = log_of(if reads > 400 { 3 } else { reads });
+    let log = log_of(if reads > 60_000 { 3 } else { reads });
     let wanted = plans::carry_out(text, &log);
     note(seen, &wanted);
     let (work, room) = wanted.as_ref().map_or((0, 0), |carried| (carried.cleared, carried.words.len()));
@@ -88,15 +88,15 @@ fn cut_after_every_byte() {
             compare_alone(&mut tally, &mut seen, &text[..len]);
         }
     }
-    assert!(seen[0] == 45 && seen[1] >= 6000, "{seen:?}");
-    tally.at_least(13_000);
+    assert!(seen[0] == 45 && seen[1] >= 10_000, "{seen:?}");
+    tally.at_least(20_000);
 }
 
 #[test]
 fn each_line_removed_and_doubled() {
     let (mut tally, mut seen) = (Tally::new("plans with a line removed or doubled"), Seen::default());
     let mut random = Random::new(126);
-    for round in 0..180 {
+    for round in 0..90 {
         let text = made::plan(&mut random, round % (MAX_DEPTH + 1)).text();
         let lines: Vec<&[u8]> = text.split_inclusive(|byte| *byte == b'\n').collect();
         for place in 0..lines.len() {
@@ -105,8 +105,8 @@ fn each_line_removed_and_doubled() {
             compare_alone(&mut tally, &mut seen, &[front, &back[..1], back].concat().concat());
         }
     }
-    assert!(seen[0] >= 1000 && seen[1] >= 1000 && seen[4] >= 20, "{seen:?}");
-    tally.at_least(8000);
+    assert!(seen[0] >= 5000 && seen[1] >= 5000 && seen[4] >= 2000, "{seen:?}");
+    tally.at_least(25_000);
 }
 
 /// A join of so many parts under so many joins, each of which has a seg before it or after it. Its last part is a join
@@ -138,8 +138,8 @@ fn damaged_at_the_limits_of_depth_and_parts() {
             }
         }
     }
-    assert!(seen[0] >= 1000 && seen[1] >= 50_000 && seen[4] >= 10_000, "{seen:?}");
-    tally.at_least(200_000);
+    assert!(seen[0] >= 2000 && seen[1] >= 80_000 && seen[4] >= 30_000, "{seen:?}");
+    tally.at_least(240_000);
 }
 
 #[test]
@@ -153,7 +153,7 @@ fn damaged_at_the_limit_of_bytes() {
             damage_at(&mut tally, &mut seen, &text, place, BYTES);
         }
     }
-    assert!(seen[1] >= 500 && seen[3] >= 20 && seen[4] >= 500, "{seen:?}");
+    assert!(seen[0] >= 50 && seen[1] >= 1000 && seen[4] >= 1000, "{seen:?}");
     tally.at_least(4000);
 }
 

@@ -50,6 +50,16 @@ pub fn summarize(session: Session, out: &mut [u32]) -> usize
     }
 }
 
+// The misses of a session.
+pub fn misses_of(session: Session, size: u32) -> MissCount {
+    session.misses(size)
+}
+
+// The hit share of a session.
+pub fn share_of(session: Session, size: u32) -> ShareAnswer {
+    session.share(size)
+}
+
 // Whether so many misses were answered.
 pub fn are_misses(answer: MissCount, misses: u32) -> bool {
     match answer {
@@ -76,5 +86,21 @@ pub fn is_share(answer: ShareAnswer, hits: u32, reads: u32) -> bool {
     match answer {
         ShareAnswer::Answered(share) => is_quotient(share, hits, reads),
         ShareAnswer::Refused(_) => false,
+    }
+}
+
+// Whether misses are refused with this number.
+pub fn refuses_misses(answer: MissCount, refusal: u32) -> bool {
+    match answer {
+        MissCount::Misses(_) => false,
+        MissCount::Refused(n) => n == refusal,
+    }
+}
+
+// Whether a hit share is refused with this number.
+pub fn refuses_share(answer: ShareAnswer, refusal: u32) -> bool {
+    match answer {
+        ShareAnswer::Answered(_) => false,
+        ShareAnswer::Refused(n) => n == refusal,
     }
 }

@@ -27,6 +27,7 @@ pub struct Compared {
     pub misses: Count,
     pub shares: Count,
     pub watches: Count,
+    pub unsound: Count,
 }
 
 // A log read so far: the session, the watch on one size, the hits of the simulated cache of that size, and its hits compared.
@@ -73,7 +74,7 @@ fn read_all(log: &[u32], size: u32, count: Count) -> Run {
 
 // The misses at one size, of a session and of its summary.
 fn misses_at(session: Session, words: &[u32], size: u32, misses: u32, count: Count) -> Count {
-    let c = count.tally(answers::are_misses(session.misses(size), misses));
+    let c = count.tally(answers::are_misses(answers::misses_of(session, size), misses));
     c.tally(answers::are_misses(summary::misses(words, size), misses))
 }
 
@@ -86,7 +87,7 @@ fn shares_at(
     reads: u32,
     count: Count,
 ) -> Count {
-    let c = count.tally(answers::is_share(session.share(size), hits, reads));
+    let c = count.tally(answers::is_share(answers::share_of(session, size), hits, reads));
     c.tally(answers::is_share(summary::share(words, size), hits, reads))
 }
 
@@ -94,6 +95,14 @@ fn shares_at(
 fn watched(watch: Watch, hits: u32, reads: u32, misses: u32, count: Count) -> Count {
     let c = count.tally(answers::are_misses(watch::misses(watch), misses));
     c.tally(answers::is_share(watch::share(watch), hits, reads))
+}
+
+// The misses and the hit share of a session that counts one read too many, which is not sound.
+fn unsound_at(session: Session, size: u32, count: Count) -> Count {
+    let mut s = session;
+    s.reads = std::num::wrapping_add_u32(s.reads, 1);
+    let c = count.tally(answers::refuses_misses(answers::misses_of(s, size), 7));
+    c.tally(answers::refuses_share(answers::share_of(s, size), 7))
 }
 
 // One log at one size.
@@ -111,6 +120,7 @@ fn at_size(log: &[u32], size: u32, so_far: Compared) -> Compared {
         misses: misses_at(session, words, size, misses, so_far.misses),
         shares: shares_at(session, words, size, all.hits, reads, so_far.shares),
         watches: watched(all.watch, all.hits, reads, misses, so_far.watches),
+        unsound: unsound_at(session, size, so_far.unsound),
     }
 }
 
@@ -152,6 +162,7 @@ pub fn all() -> Compared {
         misses: Count::none(),
         shares: Count::none(),
         watches: Count::none(),
+        unsound: Count::none(),
     };
     for i in 0..LOGS {
         c = one(i * 10, c);

@@ -28,4 +28,5 @@ fn main() {
     line(b"misses", all.misses);
     line(b"hit shares", all.shares);
     line(b"watches", all.watches);
+    line(b"sessions that are not sound", all.unsound);
 }
