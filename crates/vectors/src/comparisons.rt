@@ -9,7 +9,7 @@ use reuse::MAX_EXTENTS;
 use session::Session;
 use watch::Watch;
 
-// How many logs there are; log i has ten times i reads.
+// How many logs there are; log k has ten times k reads.
 const LOGS: usize = 120;
 
 // More reads than the longest log has.
@@ -124,9 +124,9 @@ fn at_size(log: &[u32], size: u32, so_far: Compared) -> Compared {
     }
 }
 
-// One log at every size.
-fn one(reads: usize, so_far: Compared) -> Compared
-    requires { ⌜ reads ≤ 1200 ⌝ }
+// Log k at every size.
+fn one(k: usize, so_far: Compared) -> Compared
+    requires { ⌜ k ≤ 120 ⌝ }
 {
     let sizes = [
         0u32,
@@ -147,7 +147,8 @@ fn one(reads: usize, so_far: Compared) -> Compared
         4294967295,
     ];
     let mut log = [0u32; READS];
-    logs::fill(&mut log, reads as u64);
+    logs::fill(&mut log, k as u64);
+    let reads = k * 10;
     let mut c = so_far;
     for i in 0..SIZES {
         c = at_size(&log[0..reads], words::get(&sizes, i), c);
@@ -165,7 +166,7 @@ pub fn all() -> Compared {
         unsound: Count::none(),
     };
     for i in 0..LOGS {
-        c = one(i * 10, c);
+        c = one(i, c);
     }
     c
 }

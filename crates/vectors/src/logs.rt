@@ -47,7 +47,7 @@ fn pick(seed: u64, i: usize, v: u32) -> u32 {
     let a = mixed(seed, i);
     match seed % 4 {
         0 => turn(a, v),
-        1 => turn(least(a, mixed(seed / 2, i)), v),
+        1 => least(turn(a, v), turn(mixed(seed / 2, i), v)),
         2 => turn(
             std::num::wrapping_add_u32(words::narrow(i), a % 8 / 7 * 5),
             v,
@@ -59,13 +59,14 @@ fn pick(seed: u64, i: usize, v: u32) -> u32 {
     }
 }
 
-// The number of extents of a log: few or many, at least 1 and at most 256.
+// The most extents of a log: few, all, or any number of them.
 fn variety(seed: u64) -> u32 {
     let a = mixed(seed, 90001);
-    if a % 3 == 0 {
-        return a / 3 % 12 + 1;
+    match a % 3 {
+        0 => a / 3 % 12 + 1,
+        1 => MAX_EXTENTS as u32,
+        _ => a / 3 % MAX_EXTENTS as u32 + 1,
     }
-    a / 3 % MAX_EXTENTS as u32 + 1
 }
 
 // The log of a seed.

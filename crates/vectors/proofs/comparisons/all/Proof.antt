@@ -28,9 +28,6 @@ none-requires-5 c κs = search needs
 loop-holds : tie.Need-loop-holds Inv-loop μ-loop
 loop-holds c = search needs
 
-mul-one : tie.Need-mul-one Inv-loop μ-loop
-mul-one c = search needs
-
 one-requires : tie.Need-one-requires Inv-loop μ-loop
 one-requires c κs = search needs
 
@@ -58,7 +55,6 @@ all-spec =
     none-requires-4
     none-requires-5
     loop-holds
-    mul-one
     one-requires
     add-i
     loop-less

@@ -5,16 +5,19 @@ use Rattle.vectors.proofs.comparisons.one.Statement.{statement}
 use Rattle.vectors.proofs.comparisons.one.Tie as tie
 
 abbrev Inv-loop : tie.InvT-loop
-Inv-loop reads sizes log c₀ i₀ c i = Unit {0}
+Inv-loop k sizes log reads c₀ i₀ c i = Unit {0}
 
 abbrev μ-loop : tie.MeasureT-loop
-μ-loop reads sizes log c₀ i₀ c i = 16 - i
+μ-loop k sizes log reads c₀ i₀ c i = 16 - i
 
 slice-aggregate-fill : tie.Need-slice-aggregate-fill Inv-loop μ-loop
 slice-aggregate-fill c = search needs
 
 fill-requires : tie.Need-fill-requires Inv-loop μ-loop
 fill-requires c κs = search needs
+
+mul-reads : tie.Need-mul-reads Inv-loop μ-loop
+mul-reads c = search needs
 
 loop-holds : tie.Need-loop-holds Inv-loop μ-loop
 loop-holds c = search needs
@@ -57,6 +60,7 @@ one-spec =
     μ-loop
     slice-aggregate-fill
     fill-requires
+    mul-reads
     loop-holds
     sub-at-size
     part-at-size-start
