@@ -171,6 +171,27 @@ fn two_parts_with_refused_reads() {
 }
 
 #[test]
+fn halves_about_the_limit_of_extents() {
+    let mut tally = Tally::new("traces of about 256 extents in two halves");
+    let mut random = Random::new(77);
+    let mut refused = 0;
+    for _ in 0..300 {
+        let count = 300 + random.below(300);
+        let pool = made::extents(&mut random, count);
+        let reads: Vec<u32> = (0..400).map(|_| random.of(&pool)).collect();
+        let (one, other) = reads.split_at(200);
+        let [a, b] = [one, other].map(|half| calls::summarize(half, 770).expect("at most 200 extents"));
+        let wanted = summary::summarize(&reads);
+        refused += u32::from(wanted == Err(refusal::EXTENTS));
+        tally.same(calls::summarize(&reads, 770), wanted.clone(), &reads);
+        tally.same(calls::join(&a, &b, 770), wanted, &reads);
+        tally.same(calls::distances(&a, other, 200), summary::distances_after(&a, other), &reads);
+    }
+    assert!((80..=220).contains(&refused), "{refused} traces of more than 256 extents");
+    tally.at_least(900);
+}
+
+#[test]
 fn a_read_is_a_hit_where_its_distance_is_within_the_size() {
     let mut tally = Tally::new("uncut readings and caches of all sizes");
     let mut random = Random::new(74);
