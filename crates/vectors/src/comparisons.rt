@@ -144,7 +144,7 @@ fn one(k: usize, so_far: Compared) -> Compared
         200,
         255,
         256,
-        4294967295,
+        u32::MAX,
     ];
     let mut log = [0u32; READS];
     logs::fill(&mut log, k as u64);

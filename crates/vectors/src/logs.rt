@@ -29,7 +29,7 @@ fn turn(n: u32, v: u32) -> u32 {
 // The name of extent number k: no two below 4,294,967,295 agree, and the largest name is among the first.
 fn name(k: u32) -> u32 {
     if k == 1 {
-        return 4294967295;
+        return u32::MAX;
     }
     (k as u64 * 2654435761 % SPAN) as u32
 }

@@ -20,5 +20,5 @@ pub fn narrow(n: usize) -> u32 {
     if n < 4294967296 {
         return n as u32;
     }
-    4294967295
+    u32::MAX
 }
