@@ -6,8 +6,8 @@ use mathlib.Core.Bool.{true, false}
 use lib.ListN.{length, take}
 use borrow.Author.Tests.{not-true, not-false}
 use Rattle.texts.proofs.Tests.{never}
-use Rattle.listing.specs.Feeding.{State, takePiece}
-use Rattle.listing.specs.Listers.{stateIn, unnumbered, isStopped, soundLister, takesMore}
+use Rattle.listing_texts.specs.Feeding.{State, takePiece, unnumbered}
+use Rattle.listing.specs.Listers.{stateIn, isStopped, soundLister, takesMore}
 use Rattle.listing.proofs.Feeds.{idle-stays, goes-on, Fed, fed-start, fed-more, fed-turn, fed-end}
 use Rattle.listing.proofs.Soundness.{sound-facts, state-sound}
 use borrow.Author.Needs.{needs}

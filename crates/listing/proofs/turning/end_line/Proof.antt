@@ -1,12 +1,12 @@
 -- `listing::turning::end_line` meets its contract.
-use mathlib.Core.Path.{_≡_, sym, ap, _∙_}
-use Prim.Native.Nat.{ℕ, _+_, _-_}
+use mathlib.Core.Path.{_≡_, sym, ap}
+use Prim.Native.Nat.{ℕ, _-_}
 use native.Mathlib.Omega.{arith}
-use mathlib.Core.List.{List, _++_}
+use mathlib.Core.List.{_++_}
 use lib.ListN.{length, take}
 use lib.Seq.{length-take-le}
 use borrow.Rule.Slice.PartMut.{midOf, mid-len}
-use Rattle.listing.specs.Listers.{tallyIn, takenBy, andThen}
+use Rattle.listing.proofs.Turns.{rest-put, line-ends}
 use borrow.Author.Needs.{needs}
 use Rattle.listing.proofs.turning.end_line.Statement.{statement}
 use Rattle.listing.proofs.turning.end_line.Tie as tie
@@ -32,22 +32,21 @@ same-length-2 c = search needs
 returns : tie.Need-returns
 returns c =
     let a = c .before .before .before .before .before .before .before .before .before .before .before .before .before in
-    let e = c .before .before .before .before .take-line .ensures in
     let m = midOf (a .args .at) (a .args .end - a .args .at) (a .args .bytes .now) in
     let z : a .args .held ≡ 0 = omega arith in
-    (e .0 ∙ ap (λ (k : ℕ). andThen (takenBy (a .args .phase) (tallyIn (a .args .reads) (a .args .extents) (a .args .stack .now) (a .args .counts .now))) (take k (a .args .line .now) ++ m)) (sym z), e .1)
+    line-ends (a .args .line .now) (a .args .held) m (a .args .reads) (a .args .extents) (a .args .stack .now) (a .args .counts .now) (a .pre .tally) (a .args .phase) m (ap (λ (k : ℕ). take k (a .args .line .now) ++ m) (sym z)) _ (c .before .before .before .before .take-line .ensures)
 
-sub-put : tie.Need-sub-put
-sub-put c = search needs
+sub-put-bytes : tie.Need-sub-put-bytes
+sub-put-bytes c = search needs
 
-part-put-start : tie.Need-part-put-start
-part-put-start c = search needs
+part-put-bytes-start : tie.Need-part-put-bytes-start
+part-put-bytes-start c = search needs
 
-part-put-end : tie.Need-part-put-end
-part-put-end c = search needs
+part-put-bytes-end : tie.Need-part-put-bytes-end
+part-put-bytes-end c = search needs
 
-put-requires : tie.Need-put-requires
-put-requires c κs = search needs
+put-bytes-requires : tie.Need-put-bytes-requires
+put-bytes-requires c κs = search needs
 
 sub-n : tie.Need-sub-n
 sub-n c = search needs
@@ -61,7 +60,7 @@ slice-reshare-prefix-take-line c = search needs
 slice-aggregate-take-line : tie.Need-slice-aggregate-take-line
 slice-aggregate-take-line c =
     let a = c .before .before .before .before .before .before .before .before .before .before .before in
-    sym (length-take-le _ _ (omega (arith, c .before .before .before .put .kept .0, a .pre .fits)))
+    sym (length-take-le _ _ (omega (arith, c .before .before .before .put-bytes .kept .0, a .pre .fits)))
 
 take-line-requires-2 : tie.Need-take-line-requires-2
 take-line-requires-2 c κs = search needs
@@ -78,13 +77,10 @@ same-length-5 c = search needs
 returns-2 : tie.Need-returns-2
 returns-2 c =
     let a = c .before .before .before .before .before .before .before .before .before .before .before .before .before .before .before .before .before .before in
-    let k = c .before .before .before .before .before .before .before .before .before .before .put in
-    let e = c .before .before .before .before .take-line2 .ensures in
     let m = midOf (a .args .at) (a .args .end - a .args .at) (a .args .bytes .now) in
     let l : length m ≡ a .args .end - a .args .at = mid-len (a .args .at) (a .args .end) (a .args .bytes .now) (a .pre .inside) in
-    let f : take (a .args .held + (a .args .end - a .args .at)) (k .last .0) ≡ take (a .args .held) (a .args .line .now) ++ m =
-    ap (λ (i : ℕ). take (a .args .held + i) (k .last .0)) (sym l) ∙ ap (λ (i : ℕ). take i (k .last .0)) (sym (k .ensures .past)) ∙ k .ensures .front in
-    (e .0 ∙ ap (λ (v : List ℕ). andThen (takenBy (a .args .phase) (tallyIn (a .args .reads) (a .args .extents) (a .args .stack .now) (a .args .counts .now))) v) f, e .1)
+    let k = c .before .before .before .before .before .before .before .before .before .before .put-bytes in
+    line-ends (a .args .line .now) (a .args .held) m (a .args .reads) (a .args .extents) (a .args .stack .now) (a .args .counts .now) (a .pre .tally) (a .args .phase) _ (rest-put (a .args .line .now) (a .args .held) m (a .args .end - a .args .at) l (a .pre .fits) (k .last .0) (k .ensures)) _ (c .before .before .before .before .take-line2 .ensures)
 
 pub end-line-spec : {M : Type 1} → statement M
 end-line-spec =
@@ -97,10 +93,10 @@ end-line-spec =
     same-length
     same-length-2
     returns
-    sub-put
-    part-put-start
-    part-put-end
-    put-requires
+    sub-put-bytes
+    part-put-bytes-start
+    part-put-bytes-end
+    put-bytes-requires
     sub-n
     add-n
     slice-reshare-prefix-take-line
