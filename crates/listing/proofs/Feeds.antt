@@ -86,12 +86,12 @@ module _ (bytes : List ℕ) (start : State) (phase : Phase) (line : List ℕ) (h
     fed-more h = record { more = h; wide = f .wide; fits = f .fits; tally = f .tally; goes = f .goes h }
 
     -- a turn
-    pub fed-turn : (r : Turn) (line′ stack′ counts′ : List ℕ) → length line′ ≡ length line → Turned bytes pos (stateIn phase reads extents stack counts (take held line)) r line′ stack′ counts′
-        → Fed bytes start (r .phase) line′ (r .held) (r .reads) (r .extents) stack′ counts′ (r .at)
-    fed-turn r line′ stack′ counts′ w t = record {
+    pub fed-turn : (r : Turn) (stack′ counts′ : List ℕ) → Turned bytes pos (stateIn phase reads extents stack counts (take held line)) r stack′ counts′
+        → Fed bytes start (r .phase) (r .line) (r .held) (r .reads) (r .extents) stack′ counts′ (r .at)
+    fed-turn r stack′ counts′ t = record {
       inside = t .inside;
       fits = t .fits;
-      wide = w ∙ f .wide;
+      wide = t .wide;
       tally = t .tally;
       goes = t .goes;
       same = f .same ∙ t .same;

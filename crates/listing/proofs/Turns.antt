@@ -15,29 +15,15 @@ use Rattle.texts_pieces.specs.Pieces.{lineLength}
 use Rattle.texts_pieces.proofs.Lengths.{length-within, length-line, length-ends}
 use Rattle.listing_texts.specs.Tallies.{Tally}
 use Rattle.listing_texts.specs.Feeding.{Taken, empty, inside, whole, State, takePiece, stateBy, unnumbered}
-use Rattle.listing_texts.proofs.PageLaws.{placed-put}
 use Rattle.listing_texts.proofs.Unnumbered.{take-none, stay, kept, ended, too-long}
 use Rattle.listing_tally.specs.Rows.{Tallied, tallyIn, takenBy, takenIn, andThen}
-use Rattle.listing_tally.specs.Standings.{Standing, lineTaken}
+use Rattle.listing_tally.specs.Standings.{standsAt, endTaken}
 use Rattle.listing_tally.specs.declared.Phase.{Phase}
 use Rattle.listing_tally.specs.declared.Phase.the-variants.{Empty, Inside, Whole, Stopped}
 use Rattle.listing_tally.specs.declared.Progress.{Progress}
-use Rattle.listing_tally.proofs.Phases.{line-law}
+use Rattle.listing_tally.proofs.Answers.{rest-put}
+use Rattle.listing_tally.proofs.Phases.{end-law}
 use Rattle.listing.specs.Listers.{stateIn, isStopped, Turnable, Turned}
-
--- a line that ends: what is held of it, and the rest of it
-module _ (line : List ℕ) (held : ℕ) (rest : List ℕ) where
-  -- the rest put behind what is held
-  pub rest-put : (k : ℕ) → length rest ≡ k → held + k ≤ length line → (after : List ℕ) → after ≡ placed line held rest → take (held + k) after ≡ take held line ++ rest
-  rest-put k e h after q = ap (λ (j : ℕ). take (held + j) after) (sym e) ∙ placed-put line held rest after (omega (arith, e)) q .front
-
-  -- it is taken, and the rows hold a tally
-  pub line-ends : (reads extents : ℕ) (stack counts : List ℕ) → Tallied reads extents stack counts → (phase : Phase) (l : List ℕ) → l ≡ take held line ++ rest
-      → (s : Standing) → s ≡ lineTaken reads extents stack counts phase l
-      → (takenIn (s .progress) (s .stack) (s .counts) ≡ andThen (takenBy phase (tallyIn reads extents stack counts)) (take held line ++ rest))
-      × Tallied (s .progress .reads) (s .progress .extents) (s .stack) (s .counts)
-  line-ends reads extents stack counts g phase l e s q =
-      line-law reads extents stack counts g (take held line ++ rest) phase s (q ∙ ap (lineTaken reads extents stack counts phase) e)
 
 -- a text that is not refused is somewhere
 going : (phase : Phase) (t : Tally) → isStopped phase ≡ false → (s : Taken) × (takenBy phase t ≡ to s)
@@ -84,7 +70,7 @@ module _ (bytes : List ℕ) (pos : ℕ) (line : List ℕ) (held : ℕ) (phase : 
   left-long = length-drop pos bytes
 
   -- the line is too long
-  pub turn-long : longestLine < held + n → Turned bytes pos before (record { at = length bytes; held = 0; phase = Stopped 1; reads = reads; extents = extents }) line stack counts
+  pub turn-long : longestLine < held + n → Turned bytes pos before (record { at = length bytes; line = line; held = 0; phase = Stopped 1; reads = reads; extents = extents }) stack counts
   turn-long h =
       let l : List ℕ = drop pos bytes in
       let j : ℕ = longestLine - held in
@@ -100,72 +86,90 @@ module _ (bytes : List ℕ) (pos : ℕ) (line : List ℕ) (held : ℕ) (phase : 
       record {
         forward = g .more;
         inside = omega arith;
+        wide = g .wide;
         fits = omega arith;
         tally = g .tally;
         goes = λ z. absurd (omega (arith, z));
         same = stop ∙ sym (ap unnumbered (stay 1 (drop (length bytes) bytes)));
       }
 
-  -- the piece ends before the line does
-  pub turn-kept : held + n ≤ longestLine → pos + n ≡ length bytes → (line′ : List ℕ) → take (held + n) line′ ≡ take held line ++ take n (drop pos bytes)
-      → Turned bytes pos before (record { at = pos + n; held = held + n; phase = phase; reads = reads; extents = extents }) line′ stack counts
-  turn-kept h w line′ k =
-      let l : List ℕ = drop pos bytes in
-      let all : take n l ≡ l = take-all n l (omega (arith, left-long)) in
-      let c : lineCount l ≡ 0 = ap lineCount (sym all) ∙ no-end in
-      let none : drop (pos + n) bytes ≡ [] = gone bytes (pos + n) (omega arith) in
-      let fed : takePiece before l ≡ at 0 (take held line ++ l) (here .0) =
-      ap (λ (v : State). takePiece v l) before-is ∙ kept (here .0) (take held line) l (omega (arith, held-long, g .fits)) c (omega (arith, held-long, left-long)) in
-      let after : stateIn phase reads extents stack counts (take (held + n) line′) ≡ at 0 (take held line ++ l) (here .0) =
-      ap (λ (a : Answer Taken). stateBy a (take (held + n) line′)) (here .1) ∙ ap (λ (v : List ℕ). at 0 v (here .0)) (k ∙ ap (λ (v : List ℕ). take held line ++ v) all) in
-      record {
-        forward = omega (arith, g .more);
-        inside = omega arith;
-        fits = h;
-        tally = g .tally;
-        goes = λ z. g .goes;
-        same = ap unnumbered (fed ∙ sym after ∙ sym (take-none (stateIn phase reads extents stack counts (take (held + n) line′))) ∙ ap (takePiece (stateIn phase reads extents stack counts (take (held + n) line′))) (sym none));
-      }
+  -- the line's other bytes, and it is not too long
+  module _ (rest : List ℕ) (rest-is : rest ≡ take n (drop pos bytes)) (h : held + n ≤ longestLine) where
+    -- as many as were counted
+    rest-long : length rest ≡ n
+    rest-long = ap length rest-is ∙ length-take-le n (drop pos bytes) (omega (arith, counted, left-long))
 
-  module _ (h : held + n ≤ longestLine) (w : pos + n < length bytes) (p : Progress) (line′ stack′ counts′ : List ℕ)
-      (done : takenIn p stack′ counts′ ≡ andThen (takenBy phase (tallyIn reads extents stack counts)) (take held line ++ take n (drop pos bytes)))
-      (tally : Tallied (p .reads) (p .extents) stack′ counts′) where
-    -- the line and the bytes after it
-    rest-is : drop pos bytes ≡ take n (drop pos bytes) ++ (10 ∷ drop (suc (pos + n)) bytes)
-    rest-is =
-        sym (take-append-drop n (drop pos bytes))
-        ∙ ap (λ (v : List ℕ). take n (drop pos bytes) ++ v) (drop-drop n pos bytes ∙ length-ends bytes pos (longestLine + 1 - held) n (omega (arith, g .more)) is (omega arith) w)
-
-    -- the line is taken
-    line-done : unnumbered (takePiece before (drop pos bytes)) ≡ unnumbered (takePiece (stateBy (takenIn p stack′ counts′) []) (drop (suc (pos + n)) bytes))
-    line-done =
-        ap (λ (v : State). unnumbered (takePiece v (drop pos bytes))) before-is
-        ∙ ended (here .0) (take held line) (drop pos bytes) (omega (arith, held-long, g .fits)) (take n (drop pos bytes)) (drop (suc (pos + n)) bytes) rest-is no-end (omega (arith, held-long, length-take-le n (drop pos bytes) (omega (arith, left-long))))
-        ∙ ap (λ (a : Answer Taken). unnumbered (takePiece (stateBy a []) (drop (suc (pos + n)) bytes))) (sym (done ∙ ap (λ (a : Answer Taken). andThen a (take held line ++ take n (drop pos bytes))) (here .1)))
-
-    -- and refused
-    pub turn-stopped : isStopped (p .phase) ≡ true → Turned bytes pos before (record { at = length bytes; held = 0; phase = p .phase; reads = p .reads; extents = p .extents }) line′ stack′ counts′
-    turn-stopped z =
-        let s = gone-stop (p .phase) (tallyIn (p .reads) (p .extents) stack′ counts′) z in
-        let f : (l : List ℕ) → takePiece (stateBy (takenIn p stack′ counts′) []) l ≡ stopped 0 (s .0) = λ l. ap (λ (a : Answer Taken). takePiece (stateBy a []) l) (s .1) ∙ stay (s .0) l in
+    -- the piece ends before the line does
+    pub turn-kept : pos + n ≡ length bytes → (line′ : List ℕ) → length line′ ≡ length line → line′ ≡ placed line held rest
+        → Turned bytes pos before (record { at = pos + n; line = line′; held = held + n; phase = phase; reads = reads; extents = extents }) stack counts
+    turn-kept w line′ a e =
+        let l : List ℕ = drop pos bytes in
+        let all : take n l ≡ l = take-all n l (omega (arith, left-long)) in
+        let c : lineCount l ≡ 0 = ap lineCount (sym all) ∙ no-end in
+        let none : drop (pos + n) bytes ≡ [] = gone bytes (pos + n) (omega arith) in
+        let k : take (held + n) line′ ≡ take held line ++ l =
+        ap (λ (j : ℕ). take (held + j) line′) (sym rest-long) ∙ rest-put line held rest (omega (arith, rest-long, g .wide)) line′ e ∙ ap (λ (v : List ℕ). take held line ++ v) (rest-is ∙ all) in
+        let fed : takePiece before l ≡ at 0 (take held line ++ l) (here .0) =
+        ap (λ (v : State). takePiece v l) before-is ∙ kept (here .0) (take held line) l (omega (arith, held-long, g .fits)) c (omega (arith, held-long, left-long)) in
+        let after : stateIn phase reads extents stack counts (take (held + n) line′) ≡ at 0 (take held line ++ l) (here .0) =
+        ap (λ (a : Answer Taken). stateBy a (take (held + n) line′)) (here .1) ∙ ap (λ (v : List ℕ). at 0 v (here .0)) k in
         record {
-          forward = g .more;
+          forward = omega (arith, g .more);
           inside = omega arith;
-          fits = omega arith;
-          tally = tally;
-          goes = λ y. absurd (omega (arith, y));
-          same = line-done ∙ ap unnumbered (f (drop (suc (pos + n)) bytes) ∙ sym (f (drop (length bytes) bytes)));
+          wide = a ∙ g .wide;
+          fits = h;
+          tally = g .tally;
+          goes = λ z. g .goes;
+          same = ap unnumbered (fed ∙ sym after ∙ sym (take-none (stateIn phase reads extents stack counts (take (held + n) line′))) ∙ ap (takePiece (stateIn phase reads extents stack counts (take (held + n) line′))) (sym none));
         }
 
-    -- and the text goes on
-    pub turn-ended : isStopped (p .phase) ≡ false → Turned bytes pos before (record { at = pos + n + 1; held = 0; phase = p .phase; reads = p .reads; extents = p .extents }) line′ stack′ counts′
-    turn-ended z =
-        let i : suc (pos + n) ≡ pos + n + 1 = omega arith in
-        record {
-          forward = omega arith;
-          inside = omega arith;
-          fits = omega arith;
-          tally = tally;
-          goes = λ y. z;
-          same = line-done ∙ ap (λ (k : ℕ). unnumbered (takePiece (stateBy (takenIn p stack′ counts′) []) (drop k bytes))) i;
-        }
+    -- the line ends in the piece, and is taken
+    module _ (w : pos + n < length bytes) (p : Progress) (stack′ counts′ : List ℕ) (e : standsAt p stack′ counts′ ≡ endTaken reads extents stack counts phase line held rest) where
+      -- what it does to the text, and the rows hold a tally
+      line-taken :
+          (takenIn p stack′ counts′ ≡ andThen (takenBy phase (tallyIn reads extents stack counts)) (take held line ++ rest))
+          × Tallied (p .reads) (p .extents) stack′ counts′
+      line-taken = end-law reads extents stack counts (g .tally) phase line held rest (omega (arith, rest-long)) (standsAt p stack′ counts′) e
+
+      -- the line and the bytes after it
+      all-is : drop pos bytes ≡ rest ++ (10 ∷ drop (suc (pos + n)) bytes)
+      all-is =
+          sym (take-append-drop n (drop pos bytes))
+          ∙ ap (λ (v : List ℕ). take n (drop pos bytes) ++ v) (drop-drop n pos bytes ∙ length-ends bytes pos (longestLine + 1 - held) n (omega (arith, g .more)) is (omega arith) w)
+          ∙ ap (λ (v : List ℕ). v ++ (10 ∷ drop (suc (pos + n)) bytes)) (sym rest-is)
+
+      -- what is left to do after it
+      line-done : unnumbered (takePiece before (drop pos bytes)) ≡ unnumbered (takePiece (stateBy (takenIn p stack′ counts′) []) (drop (suc (pos + n)) bytes))
+      line-done =
+          ap (λ (v : State). unnumbered (takePiece v (drop pos bytes))) before-is
+          ∙ ended (here .0) (take held line) (drop pos bytes) (omega (arith, held-long, g .fits)) rest (drop (suc (pos + n)) bytes) all-is (ap lineCount rest-is ∙ no-end) (omega (arith, held-long, rest-long))
+          ∙ ap (λ (a : Answer Taken). unnumbered (takePiece (stateBy a []) (drop (suc (pos + n)) bytes))) (sym (line-taken .0 ∙ ap (λ (a : Answer Taken). andThen a (take held line ++ rest)) (here .1)))
+
+      -- the text is refused
+      pub turn-stopped : isStopped (p .phase) ≡ true → Turned bytes pos before (record { at = length bytes; line = line; held = 0; phase = p .phase; reads = p .reads; extents = p .extents }) stack′ counts′
+      turn-stopped z =
+          let s = gone-stop (p .phase) (tallyIn (p .reads) (p .extents) stack′ counts′) z in
+          let f : (l : List ℕ) → takePiece (stateBy (takenIn p stack′ counts′) []) l ≡ stopped 0 (s .0) = λ l. ap (λ (a : Answer Taken). takePiece (stateBy a []) l) (s .1) ∙ stay (s .0) l in
+          record {
+            forward = g .more;
+            inside = omega arith;
+            wide = g .wide;
+            fits = omega arith;
+            tally = line-taken .1;
+            goes = λ y. absurd (omega (arith, y));
+            same = line-done ∙ ap unnumbered (f (drop (suc (pos + n)) bytes) ∙ sym (f (drop (length bytes) bytes)));
+          }
+
+      -- it goes on
+      pub turn-ended : isStopped (p .phase) ≡ false → Turned bytes pos before (record { at = pos + n + 1; line = line; held = 0; phase = p .phase; reads = p .reads; extents = p .extents }) stack′ counts′
+      turn-ended z =
+          let i : suc (pos + n) ≡ pos + n + 1 = omega arith in
+          record {
+            forward = omega arith;
+            inside = omega arith;
+            wide = g .wide;
+            fits = omega arith;
+            tally = line-taken .1;
+            goes = λ y. z;
+            same = line-done ∙ ap (λ (k : ℕ). unnumbered (takePiece (stateBy (takenIn p stack′ counts′) []) (drop k bytes))) i;
+          }

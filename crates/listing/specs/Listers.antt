@@ -1,6 +1,6 @@
 -- Listers: what the words of one stand for, and when they stand for anything.
 use mathlib.Core.Path.{_≡_}
-use Prim.Native.Nat.{ℕ, _+_, _-_, _≤_, _<_}
+use Prim.Native.Nat.{ℕ, _+_, _≤_, _<_}
 use mathlib.Core.List.{List}
 use mathlib.Core.Bool.{Bool, true, false, cond, not, _&&_}
 use lib.Dec.{eqb, leb}
@@ -45,13 +45,6 @@ takesMore l = not (isStopped (l .phase)) && soundLister l
 abbrev pub stateIn : Phase → ℕ → ℕ → List ℕ → List ℕ → List ℕ → State
 stateIn phase reads extents stack counts held = stateBy (takenBy phase (tallyIn reads extents stack counts)) held
 
--- a line of a piece that ends: its bytes stand in the piece, and fit behind those held
-pub record Ending (bytes : List ℕ) (at end : ℕ) (line : List ℕ) (held reads extents : ℕ) (stack counts : List ℕ) : Type 0 where
-  pub order : at ≤ end
-  pub inside : end ≤ length bytes
-  pub fits : held + (end - at) ≤ length line
-  pub tally : Tallied reads extents stack counts
-
 -- a piece can be taken further: the text is not refused, and what is held of a line fits
 pub record Turnable (bytes : List ℕ) (at : ℕ) (line : List ℕ) (held : ℕ) (phase : Phase) (reads extents : ℕ) (stack counts : List ℕ) : Type 0 where
   pub more : at < length bytes
@@ -61,11 +54,12 @@ pub record Turnable (bytes : List ℕ) (at : ℕ) (line : List ℕ) (held : ℕ)
   pub goes : isStopped phase ≡ false
 
 -- it was taken further from a state: what is left of it does the same from the state reached
-pub record Turned (bytes : List ℕ) (from : ℕ) (before : State) (r : Turn) (line stack counts : List ℕ) : Type 0 where
+pub record Turned (bytes : List ℕ) (from : ℕ) (before : State) (r : Turn) (stack counts : List ℕ) : Type 0 where
   pub forward : from < r .at
   pub inside : r .at ≤ length bytes
+  pub wide : length (r .line) ≡ longestLine
   pub fits : r .held ≤ longestLine
   pub tally : Tallied (r .reads) (r .extents) stack counts
   pub goes : r .at < length bytes → isStopped (r .phase) ≡ false
   pub same : unnumbered (takePiece before (drop from bytes))
-      ≡ unnumbered (takePiece (stateIn (r .phase) (r .reads) (r .extents) stack counts (take (r .held) line)) (drop (r .at) bytes))
+      ≡ unnumbered (takePiece (stateIn (r .phase) (r .reads) (r .extents) stack counts (take (r .held) (r .line))) (drop (r .at) bytes))

@@ -17,7 +17,7 @@ pub use listing_texts::Verdict;
 
 // A log text taken so far: what is held of a line that has not ended, how far the text is, and the tally of its reads.
 pub struct Lister {
-    pub line: [u8; 19],
+    pub line: [u8; listing_tally::LONGEST],
     pub held: usize,
     pub phase: Phase,
     pub reads: u32,
@@ -32,7 +32,7 @@ impl Lister {
         ensures { λ r. ⌜ stateOf r ≡ at 0 [] empty ⌝ }
     {
         Lister {
-            line: [0; 19],
+            line: [0; listing_tally::LONGEST],
             held: 0,
             phase: Phase::Empty,
             reads: 0,
@@ -46,7 +46,7 @@ impl Lister {
     pub fn sound(self) -> bool
         ensures { λ r. ⌜ r ≡ soundLister self ⌝ }
     {
-        if turning::LONGEST < self.held {
+        if listing_tally::LONGEST < self.held {
             return false;
         }
         let v = self.extents;
@@ -95,7 +95,7 @@ impl Lister {
             let t = turning::advance(
                 bytes,
                 at,
-                &mut line,
+                line,
                 held,
                 phase,
                 reads,
@@ -104,6 +104,7 @@ impl Lister {
                 &mut counts,
             );
             at = t.at;
+            line = t.line;
             held = t.held;
             phase = t.phase;
             reads = t.reads;

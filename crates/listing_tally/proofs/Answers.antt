@@ -2,27 +2,29 @@
 use mathlib.Core.Path.{_≡_, sym, ap, _∙_}
 use Prim.Native.Nat.{ℕ, _+_, _-_, _%_, _≤_, _<_, _^_}
 use native.Mathlib.Omega.{arith}
-use mathlib.Core.List.{List}
+use mathlib.Core.List.{List, _++_}
 use mathlib.Core.Bool.{Bool}
 use lib.Dec.{leb}
-use lib.ListN.{length, getD, set}
+use lib.ListN.{length, take, getD, set}
 use borrow.Author.Tests.{leb-true, le-ltb, lt-ltb, le-leb, lt-leb}
 use Rattle.reuse.specs.Limits.{maxReads}
 use Rattle.reuse.proofs.Lists.{by-test}
+use Rattle.reuse_rows.specs.Rows.{placed}
 use Rattle.reuse_engine.specs.Engine.{placeOf, leftBy}
 use Rattle.reuse_engine.specs.declared.Place.{Place}
 use Rattle.reuse_engine.specs.declared.Place.the-variants.{Cold, Depth, Full, BadCount}
 use Rattle.reuse_engine.proofs.Engine.{place-range, place-room}
 use Rattle.texts.specs.Limits.{maxExtent}
 use Rattle.texts.specs.Words.{after}
-use Rattle.texts.specs.Logs.{traceWord, rowOf}
+use Rattle.texts.specs.Logs.{traceWord, rowOf, longestLine}
 use Rattle.texts.proofs.Tests.{never}
+use Rattle.listing_texts.proofs.PageLaws.{placed-put}
 use Rattle.listing_lines.specs.Forms.{rowFound, headFound}
 use Rattle.listing_lines.specs.declared.Row.{Row}
 use Rattle.listing_tally.specs.declared.Phase.{Phase}
 use Rattle.listing_tally.specs.declared.Phase.the-variants.{Empty, Inside, Whole, Stopped}
 use Rattle.listing_tally.specs.declared.Progress.{Progress}
-use Rattle.listing_tally.specs.Standings.{Standing, standsAt, stop, goOn, headTaken, readAt, readTaken, rowTaken, lineTaken}
+use Rattle.listing_tally.specs.Standings.{Standing, standsAt, stop, goOn, headTaken, readAt, readTaken, rowTaken, lineTaken, endTaken}
 
 module _ (reads extents : ℕ) (stack counts : List ℕ) where
   -- a place in the stack, and the stack within its row
@@ -121,3 +123,27 @@ module _ (reads extents : ℕ) (stack counts : List ℕ) where
         → standsAt r stack counts ≡ lineTaken reads extents stack counts phase line
     unfolding lineTaken
     line-stop n e r q = rw (e, q)
+
+  -- a line that ends
+  module _ (phase : Phase) (front : List ℕ) (held : ℕ) (rest : List ℕ) where
+    -- it is too long
+    pub end-long : longestLine < held + length rest → (r : Progress) → r ≡ stop 1 reads extents
+        → standsAt r stack counts ≡ endTaken reads extents stack counts phase front held rest
+    unfolding endTaken
+    end-long h r e = rw (e, lt-leb (held + length rest) longestLine h)
+
+    -- it is taken
+    pub end-taken : held + length rest ≤ longestLine → (line : List ℕ) → line ≡ take held front ++ rest
+        → (s : Standing) → s ≡ lineTaken reads extents stack counts phase line → s ≡ endTaken reads extents stack counts phase front held rest
+    unfolding endTaken
+    end-taken h line e s q = q ∙ rw (le-leb (held + length rest) longestLine h, e)
+
+-- the bytes of a line that ends: those held, and the rest
+module _ (front : List ℕ) (held : ℕ) (rest : List ℕ) where
+  -- none are held
+  pub none-held : held ≡ 0 → rest ≡ take held front ++ rest
+  none-held e = rw e
+
+  -- the rest is put behind those held
+  pub rest-put : held + length rest ≤ length front → (line : List ℕ) → line ≡ placed front held rest → take (held + length rest) line ≡ take held front ++ rest
+  rest-put h line e = placed-put front held rest line h e .front

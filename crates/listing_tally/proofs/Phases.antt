@@ -1,20 +1,22 @@
 -- A line taken into rows that hold a tally: what it does to the rows is what it does to the text.
 use mathlib.Core.Path.{_≡_, refl, sym, ap, subst, _∙_}
-use Prim.Native.Nat.{ℕ}
+use Prim.Native.Nat.{ℕ, _+_, _≤_}
 use native.Mathlib.Omega.{arith}
-use mathlib.Core.List.{List, [], _∷_}
+use mathlib.Core.List.{List, [], _∷_, _++_}
 use mathlib.Core.Option.{Option, none, some}
 use lib.Dec.{eqb}
+use lib.ListN.{length, take}
+use borrow.Author.Tests.{le-leb}
 use Rattle.reuse.specs.Lists.{distinct, sum}
 use Rattle.reuse.proofs.Lists.{by-test}
 use Rattle.texts.specs.Words.{after}
-use Rattle.texts.specs.Logs.{Row, row, badRow, rowOf, traceWord}
+use Rattle.texts.specs.Logs.{Row, row, badRow, rowOf, traceWord, longestLine}
 use Rattle.listing_texts.specs.Feeding.{takeRow, takeHead, takeLine}
 use Rattle.listing_lines.specs.Forms.{rowFound, headFound}
 use Rattle.listing_tally.specs.declared.Phase.{Phase}
 use Rattle.listing_tally.specs.declared.Phase.the-variants.{Empty, Inside, Whole, Stopped}
 use Rattle.listing_tally.specs.Rows.{tallyIn, Tallied, takenBy, takenIn, andThen}
-use Rattle.listing_tally.specs.Standings.{Standing, headTaken, rowTaken, lineTaken}
+use Rattle.listing_tally.specs.Standings.{Standing, headTaken, rowTaken, lineTaken, endTaken}
 use Rattle.listing_tally.proofs.TallyRows.{read-law}
 
 module _ (reads extents : ℕ) (stack counts : List ℕ) (g : Tallied reads extents stack counts) where
@@ -65,3 +67,10 @@ module _ (reads extents : ℕ) (stack counts : List ℕ) (g : Tallied reads exte
     -- of what the code answers
     pub line-law : (phase : Phase) (s : Standing) → s ≡ lineTaken reads extents stack counts phase line → Takes phase s
     line-law phase s e = subst (Takes phase) (sym e) (by-phase phase)
+
+  -- a line that ends and fits, of what the code answers
+  pub end-law : (phase : Phase) (front : List ℕ) (held : ℕ) (rest : List ℕ) → held + length rest ≤ longestLine
+      → (s : Standing) → s ≡ endTaken reads extents stack counts phase front held rest → Takes (take held front ++ rest) phase s
+  unfolding endTaken
+  end-law phase front held rest h s e =
+      line-law (take held front ++ rest) phase s (e ∙ rw (le-leb (held + length rest) longestLine h))

@@ -1,16 +1,16 @@
 -- What a line does to a text taken so far, whatever stands in the rows of its tally.
 use Prim.Native.Nat.{ℕ, _+_, _-_, _%_, _^_}
-use mathlib.Core.List.{List}
+use mathlib.Core.List.{List, _++_}
 use mathlib.Core.Bool.{Bool, true, false, cond}
 use lib.Dec.{ltb, leb}
-use lib.ListN.{length, getD, set}
+use lib.ListN.{length, take, getD, set}
 use Rattle.reuse.specs.Limits.{maxReads}
 use Rattle.reuse_engine.specs.Engine.{placeOf, leftBy}
 use Rattle.reuse_engine.specs.declared.Place.{Place}
 use Rattle.reuse_engine.specs.declared.Place.the-variants.{Cold, Depth, Full, BadCount}
 use Rattle.texts.specs.Limits.{maxExtent}
 use Rattle.texts.specs.Words.{after}
-use Rattle.texts.specs.Logs.{traceWord, rowOf}
+use Rattle.texts.specs.Logs.{traceWord, rowOf, longestLine}
 use Rattle.listing_lines.specs.Forms.{rowFound, headFound}
 use Rattle.listing_lines.specs.declared.Row.{Row}
 use Rattle.listing_lines.specs.declared.Row.the-variants.{Read, Bad}
@@ -80,3 +80,7 @@ module _ (reads extents : ℕ) (stack counts : List ℕ) where
   lineTaken Inside line = rowTaken (rowFound (rowOf line))
   lineTaken Whole line = stopped 1
   lineTaken (Stopped n) line = stopped n
+
+  -- a line that ends, its first bytes held in front of a row, the rest of it after them: refused with 1 where it is too long
+  unfoldable pub endTaken : Phase → List ℕ → ℕ → List ℕ → Standing
+  endTaken phase front held rest = cond (leb (held + length rest) longestLine) (lineTaken phase (take held front ++ rest)) (stopped 1)

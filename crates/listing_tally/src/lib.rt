@@ -6,7 +6,10 @@ ghost use mathlib.Core.Path.{_≡_};
 ghost use Rattle.texts.specs.Words.{after};
 ghost use Rattle.texts.specs.Logs.{traceWord};
 ghost use Rattle.listing_lines.specs.Forms.{headFound};
-ghost use Rattle.listing_tally.specs.Standings.{standsAt, stop, goOn, headTaken, readTaken, lineTaken};
+ghost use Rattle.listing_tally.specs.Standings.{standsAt, stop, goOn, headTaken, readTaken, lineTaken, endTaken};
+
+// The bytes of the longest line.
+pub const LONGEST: usize = 19;
 
 // The largest extent.
 const MAX_EXTENT: u64 = 4294967295;
@@ -125,4 +128,32 @@ pub fn take_line(
         Phase::Whole => refused(1, reads, extents),
         Phase::Stopped(n) => refused(n, reads, extents),
     }
+}
+
+// A line ends: its first `held` bytes stand in `line`, and `rest` are the others. Refused with 1 where it is too long.
+pub fn end_line(
+    line: [u8; LONGEST],
+    held: usize,
+    rest: &[u8],
+    phase: Phase,
+    reads: u32,
+    extents: usize,
+    stack: &mut [u32],
+    counts: &mut [u32],
+) -> Progress
+    ensures { λ r. ⌜ standsAt r (now (stack .exit)) (now (counts .exit)) ≡ endTaken reads extents (now (stack .entry)) (now (counts .entry)) phase line held (now (rest .entry)) ⌝ }
+{
+    if LONGEST < held {
+        return refused(1, reads, extents);
+    }
+    if LONGEST - held < rest.len() {
+        return refused(1, reads, extents);
+    }
+    if held == 0 {
+        return take_line(rest, phase, reads, extents, stack, counts);
+    }
+    let mut whole = line;
+    reuse_rows::put_bytes(&mut whole, held, rest);
+    let n = held + rest.len();
+    take_line(&whole[..n], phase, reads, extents, stack, counts)
 }
