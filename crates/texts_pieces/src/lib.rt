@@ -99,16 +99,16 @@ pub fn line_length(s: &[u8], at: usize, most: usize) -> usize
     if s.len() < at {
         return 0;
     }
-    let mut n: usize = 0;
-    while n < most {
-        let i = at + n;
+    let mut len: usize = 0;
+    while len < most {
+        let i = at + len;
         if s.len() <= i {
-            return n;
+            return len;
         }
         if s[i] == 10 {
-            return n;
+            return len;
         }
-        n += 1;
+        len += 1;
     }
-    n
+    len
 }

@@ -11,10 +11,10 @@ use Rattle.texts_pieces.proofs.line_length.Statement.{statement}
 use Rattle.texts_pieces.proofs.line_length.Tie as tie
 
 abbrev Inv-loop : tie.InvT-loop
-Inv-loop s at most n₀ n = (at + n ≤ length s) × (n ≤ most) × (lineLength most (drop at s) ≡ lineLength (most - n) (drop (at + n) s) + n)
+Inv-loop s at most len₀ len = (at + len ≤ length s) × (len ≤ most) × (lineLength most (drop at s) ≡ lineLength (most - len) (drop (at + len) s) + len)
 
 abbrev μ-loop : tie.MeasureT-loop
-μ-loop s at most n₀ n = most - n
+μ-loop s at most len₀ len = most - len
 
 returns : tie.Need-returns Inv-loop μ-loop
 returns c = let a = c .before .args in sym (length-end (a .s .now) (a .at) (a .most) (omega arith))
@@ -29,7 +29,7 @@ returns-2 : tie.Need-returns-2 Inv-loop μ-loop
 returns-2 c =
     let a = c .before .before .before .before .args in
     let l = c .before .before .loop in
-    let z = length-end (a .s .now) (a .at + l .n) (a .most - l .n) (c .if2 .taken) in
+    let z = length-end (a .s .now) (a .at + l .len) (a .most - l .len) (c .if2 .taken) in
     omega (arith, l .inv .2, z)
 
 shared-slice-read-if3 : tie.Need-shared-slice-read-if3 Inv-loop μ-loop
@@ -39,11 +39,11 @@ returns-3 : tie.Need-returns-3 Inv-loop μ-loop
 returns-3 c =
     let a = c .before .before .before .before .before .before .args in
     let l = c .before .before .before .before .loop in
-    let z = length-stop (a .s .now) (a .at + l .n) (a .most - l .n) (c .before .before .if2 .left) (c .if3 .taken) in
+    let z = length-stop (a .s .now) (a .at + l .len) (a .most - l .len) (c .before .before .if2 .left) (c .if3 .taken) in
     omega (arith, l .inv .2, z)
 
-add-n : tie.Need-add-n Inv-loop μ-loop
-add-n c = search needs
+add-len : tie.Need-add-len Inv-loop μ-loop
+add-len c = search needs
 
 loop-less : tie.Need-loop-less Inv-loop μ-loop
 loop-less c = search needs
@@ -52,17 +52,17 @@ loop-again : tie.Need-loop-again Inv-loop μ-loop
 loop-again c =
     let a = c .before .before .before .before .before .before .args in
     let l = c .before .before .before .before .loop in
-    let z = length-more (a .s .now) (a .at + l .n) (a .most - l .n) (c .before .before .if2 .left) (c .if3 .left) (omega arith) in
-    let u : a .most - l .n - 1 ≡ a .most - (l .n + 1) = omega arith in
-    let v : a .at + l .n + 1 ≡ a .at + (l .n + 1) = omega arith in
-    let w = ap (λ (j : ℕ). lineLength j (drop (a .at + l .n + 1) (a .s .now))) u ∙ ap (λ (j : ℕ). lineLength (a .most - (l .n + 1)) (drop j (a .s .now))) v in
+    let z = length-more (a .s .now) (a .at + l .len) (a .most - l .len) (c .before .before .if2 .left) (c .if3 .left) (omega arith) in
+    let u : a .most - l .len - 1 ≡ a .most - (l .len + 1) = omega arith in
+    let v : a .at + l .len + 1 ≡ a .at + (l .len + 1) = omega arith in
+    let w = ap (λ (j : ℕ). lineLength j (drop (a .at + l .len + 1) (a .s .now))) u ∙ ap (λ (j : ℕ). lineLength (a .most - (l .len + 1)) (drop j (a .s .now))) v in
     (search needs, search needs, omega (arith, l .inv .2, z, w))
 
 returns-4 : tie.Need-returns-4 Inv-loop μ-loop
 returns-4 c =
     let a = c .before .before .before .args in
     let l = c .before .loop in
-    let z = length-done (a .most - l .n) (drop (a .at + l .n) (a .s .now)) (omega arith) in
+    let z = length-done (a .most - l .len) (drop (a .at + l .len) (a .s .now)) (omega arith) in
     omega (arith, l .inv .2, z)
 
 pub line-length-spec : {M : Type 1} → statement M
@@ -77,7 +77,7 @@ line-length-spec =
     returns-2
     shared-slice-read-if3
     returns-3
-    add-n
+    add-len
     loop-less
     loop-again
     returns-4)
