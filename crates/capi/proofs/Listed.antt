@@ -12,10 +12,10 @@ use Rattle.summary_calls.specs.Calls.{wrote, refused}
 use Rattle.summary_calls.proofs.Calls.{wrote-short, wrote-all}
 use Rattle.texts.specs.Lines.{Read, got, refused as faulty}
 use Rattle.texts.specs.Logs.{logOf}
-use Rattle.listing.specs.declared.Verdict.{Verdict}
-use Rattle.listing.specs.declared.Verdict.the-variants.{Listed, Refused}
-use Rattle.listing.specs.Feeding.{verdictBy}
-use Rattle.listing.specs.Listings.{listingOf}
+use Rattle.listing_texts.specs.declared.Verdict.{Verdict}
+use Rattle.listing_texts.specs.declared.Verdict.the-variants.{Listed, Refused}
+use Rattle.listing_texts.specs.Feeding.{verdictBy}
+use Rattle.listing_texts.specs.Listings.{listingOf}
 use Rattle.capi.specs.Calls.{listBy, listCall}
 
 -- the number of a refusal
@@ -45,7 +45,7 @@ module _ (buffer : List ℕ) where
     unfolding listCall listingOf
     by-listed = listed-as (logOf text)
       where
-        listed-as : (r : Read (List ℕ)) → verdictBy r ≡ Listed → listBy r buffer ≡ wrote (Rattle.listing.specs.Listings.outputOf r) buffer
+        listed-as : (r : Read (List ℕ)) → verdictBy r ≡ Listed → listBy r buffer ≡ wrote (Rattle.listing_texts.specs.Listings.outputOf r) buffer
         listed-as (got t) e = refl
         listed-as (faulty line n) e = absurd (false≢true (ap isListed e))
 

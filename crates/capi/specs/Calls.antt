@@ -27,7 +27,7 @@ use Rattle.watch.specs.Watching.{newOf, notedOf, missesCall, shareCall}
 use Rattle.watch.specs.Watching.{refused as unnoted}
 use Rattle.texts.specs.Lines.{Read, got, refused as faulty}
 use Rattle.texts.specs.Logs.{logOf}
-use Rattle.listing.specs.Listings.{sizesOf}
+use Rattle.listing_texts.specs.Listings.{sizesOf}
 use Rattle.capi.specs.Layout.{sessionLength, sessionIn, sessionLaid, watchLength, watchIn, watchLaid}
 
 -- a new session's words, or 6

@@ -7,10 +7,10 @@ use lib.Seq.{length-take-le}
 use Rattle.reuse_rows.specs.Rows.{putAt}
 use Rattle.summary_calls.specs.Calls.{Wrote}
 use Rattle.texts.specs.Logs.{logOf}
-use Rattle.listing.specs.declared.Verdict.the-variants.{Listed}
-use Rattle.listing.specs.Feeding.{verdictBy}
-use Rattle.listing.specs.Listings.{listingOf}
-use Rattle.listing.specs.Pages.{pageBytes}
+use Rattle.listing_texts.specs.declared.Verdict.the-variants.{Listed}
+use Rattle.listing_texts.specs.Feeding.{verdictBy}
+use Rattle.listing_texts.specs.Listings.{listingOf}
+use Rattle.listing_texts.specs.Pages.{pageBytes}
 use Rattle.listing.proofs.Cuttings.{printed-whole, verdict-whole}
 use Rattle.capi.specs.Answers.{counted}
 use Rattle.capi.proofs.Signed.{read-pos, read-back}
