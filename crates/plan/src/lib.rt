@@ -1,9 +1,9 @@
 // Joining plans: a text says how a log is cut and grouped, and the plan is carried out in lent memory.
 mod evaluation;
 
-pub use plan_reader::read;
 pub use plan_reader::MAX_BYTES;
 pub use plan_reader::PlanRead;
+pub use plan_reader::read;
 use summary::Written;
 ghost use mathlib.Core.Path.{_≡_};
 ghost use Rattle.plan.specs.Calls.{runCall, Accepted};

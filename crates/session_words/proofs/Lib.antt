@@ -1,0 +1,2 @@
+mod Laid
+pub mod Kept
