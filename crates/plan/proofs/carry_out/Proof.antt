@@ -66,7 +66,7 @@ slice-relend-prefix-clear : tie.Need-slice-relend-prefix-clear
 slice-relend-prefix-clear c = search needs
 
 slice-aggregate-clear : tie.Need-slice-aggregate-clear
-slice-aggregate-clear c = sym (length-take-le _ _ (levels-there (c .before)))
+slice-aggregate-clear c = sym (length-take-le _ _ (omega (arith, c .before .before .before .before .before .evaluate .kept .1 .1 .1 .1 .1 .1 .0)))
 
 clear-requires : tie.Need-clear-requires
 clear-requires c κs = search needs
