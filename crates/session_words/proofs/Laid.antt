@@ -29,10 +29,6 @@ part-length w at n h = sym (simp (length-take, length-drop) (omega (arith, h)))
 skip : (a b : List ℕ) (n k : ℕ) → length a ≡ n → drop (n + k) (a ++ b) ≡ drop k b
 skip a b n k e = sym (drop-drop k n (a ++ b)) ∙ ap (drop k) (drop-at a b n e)
 
--- the first of two parts
-front : (a b : List ℕ) (n : ℕ) → length a ≡ n → take n (a ++ b) ≡ a
-front a b n e = take-at a b n e
-
 -- the first word, put
 pub lay-start : (out : List ℕ) (x : ℕ) → 1 ≤ length out → Filled out (x ∷ []) (set out 0 x) 1
 lay-start out x l = record { same = sym (put-cons out 0 x [] (omega arith) ∙ put-none (set out 0 x) 1); size = refl; fits = l }

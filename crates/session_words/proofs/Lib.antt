@@ -1,2 +1,2 @@
-mod Laid
+pub mod Laid
 pub mod Kept
