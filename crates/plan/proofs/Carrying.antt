@@ -2,8 +2,8 @@
 use mathlib.Core.Path.{_≡_, refl, sym, ap, _∙_}
 use Prim.Native.Nat.{ℕ, _+_, _*_, _≤_, _<_}
 use native.Mathlib.Omega.{arith}
-use mathlib.Core.List.{List, [], _∷_, _++_}
-use mathlib.Core.Bool.{_&&_, and-false}
+use mathlib.Core.List.{List, [], _++_}
+use mathlib.Core.Bool.{and-false}
 use lib.ListN.{length, take, drop, replicate}
 use lib.Seq.{take-all, length-take-le}
 use borrow.Author.Tests.{eq-eqb, ne-eqb, le-leb, lt-leb}
@@ -14,9 +14,7 @@ use Rattle.reuse.specs.Traces.{Within}
 use Rattle.reuse.proofs.Words.{length-summary}
 use Rattle.summary.specs.declared.Written.{Written}
 use Rattle.summary.specs.declared.Written.the-variants.{Words, Refused}
-use Rattle.texts.specs.Digits.{tooLong}
 use Rattle.texts.specs.Lines.{Read, got, refused}
-use Rattle.texts.specs.Limits.{maxJoins}
 use Rattle.texts.specs.Plans.{Plan, textOf, reads, depth}
 use Rattle.texts.specs.PlanTexts.{planOf}
 use Rattle.texts.proofs.Tests.{never}
@@ -24,7 +22,7 @@ use Rattle.texts.proofs.PlanSound.{sound}
 use Rattle.plan_reader.specs.declared.PlanRead.the-variants as planRead
 use Rattle.plan.specs.declared.evaluation.Done.{Done}
 use Rattle.plan_reader.specs.Answers.{answerOf}
-use Rattle.plan.specs.Calls.{levelWords, workWords, cleared, fronted, Ran, declined, carriedOut, planCall, runBy, runCall, Accepted}
+use Rattle.plan.specs.Calls.{levelWords, workWords, cleared, fronted, Ran, declined, carriedOut, planCall, runBy, runCall}
 use Rattle.plan.specs.Evaluation.{span, Stands, Ready, Roomy, Evaluated}
 
 -- what a call answers and leaves, by its definition

@@ -5,7 +5,6 @@ use native.Mathlib.Omega.{arith}
 use mathlib.Core.List.{List, [], _∷_}
 use lib.ListN.{length}
 use Rattle.reuse.specs.Lists.{firsts, remove}
-use Rattle.reuse.specs.Summary.{summaryOf}
 use Rattle.reuse.specs.Traces.{Within}
 use Rattle.reuse.proofs.Examples.{seven-summary}
 use Rattle.reuse.proofs.Monoid.{empty-summary}

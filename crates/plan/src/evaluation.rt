@@ -2,8 +2,7 @@
 use plan_lines::Line;
 use summary::Written;
 ghost use mathlib.Core.Path.{_≡_};
-ghost use Prim.Native.Nat.{_≤_};
-ghost use lib.ListN.{length, take, drop};
+ghost use lib.ListN.{take, drop};
 ghost use Rattle.summary.specs.Calls.{joinCall};
 ghost use Rattle.plan.specs.Calls.{levelWords};
 ghost use Rattle.plan.specs.Evaluation.{countOf, Ready, Roomy, Evaluates, Holdable};
@@ -44,18 +43,6 @@ fn join_held(work: &mut [u32], held: usize, out: &mut [u32], words: usize) -> us
     count_of(summary::join(&both[..held], &both[SUMMARY_WORDS..end], out))
 }
 
-// How far evaluation has come, by its four numbers.
-fn past(next: usize, closes: usize, taken: usize, words: usize) -> Done
-    ensures { λ r. ⌜ r ≡ record { next = next; closes = closes; taken = taken; words = words } ⌝ }
-{
-    Done {
-        next,
-        closes,
-        taken,
-        words,
-    }
-}
-
 // The plan at `at` under `under` joins, on the log's reads from `from` on, with `left` levels of work words.
 pub fn evaluate(
     s: &[u8],
@@ -72,7 +59,12 @@ pub fn evaluate(
 {
     let l = plan_lines::line_at(s, at, under);
     match l {
-        Line::Bad => past(at, 0, from, 0),
+        Line::Bad => Done {
+            next: at,
+            closes: 0,
+            taken: from,
+            words: 0,
+        },
         Line::Seg {
             reads,
             closes,
@@ -80,7 +72,12 @@ pub fn evaluate(
         } => {
             let end = from + reads as usize;
             let words = count_of(summary::of_trace(&log[from..end], out));
-            past(next, closes, end, words)
+            Done {
+                next,
+                closes,
+                taken: end,
+                words,
+            }
         }
         Line::Join { next } => {
             let inner = under + 1;
@@ -93,9 +90,19 @@ pub fn evaluate(
                 reuse_rows::put(work, 0, &out[..held]);
                 let part = evaluate(s, here, inner, log, taken, below, &mut work[LEVEL..], out);
                 let words = join_held(work, held, out, part.words);
-                done = past(part.next, part.closes, part.taken, words);
+                done = Done {
+                    next: part.next,
+                    closes: part.closes,
+                    taken: part.taken,
+                    words,
+                };
             }
-            past(done.next, done.closes - 1, done.taken, done.words)
+            Done {
+                next: done.next,
+                closes: done.closes - 1,
+                taken: done.taken,
+                words: done.words,
+            }
         }
     }
 }

@@ -1,14 +1,13 @@
 -- A session's words: laid out part by part, and read back.
 use mathlib.Core.Path.{_≡_, refl, sym, ap, _∙_}
-use Prim.Native.Nat.{ℕ, suc, _+_, _≤_, _<_}
+use Prim.Native.Nat.{ℕ, _+_, _≤_, _<_}
 use native.Mathlib.Omega.{arith}
 use mathlib.Core.List.{List, [], _∷_, _++_, append-assoc, append-nil}
-use lib.ListN.{length, take, drop, getD, set, length-append, length-take, length-drop, length-set, drop-of-length-le}
+use lib.ListN.{length, take, drop, getD, set, length-append, length-take, length-drop, drop-of-length-le}
 use lib.Seq.{drop-at, take-at, drop-drop, getD-drop}
-use borrow.Author.Tests.{le-leb}
 use Rattle.reuse.specs.Limits.{maxExtents, slotCount, sumCount}
 use Rattle.reuse_rows.specs.Rows.{putAt, placed}
-use Rattle.reuse_rows.proofs.Puts.{put-length, put-append, put-cons, put-none, placed-fits}
+use Rattle.reuse_rows.proofs.Puts.{put-cons, put-none, placed-fits}
 use Rattle.session.specs.declared.Session.{Session}
 use Rattle.session.specs.Steps.{Wide}
 use Rattle.summary.proofs.Filling.{Filled, fill-step, filled-length}

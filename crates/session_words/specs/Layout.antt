@@ -1,7 +1,7 @@
 -- A session as words: what the first words of a row stand for, and the words of a session.
 use Prim.Native.Nat.{ℕ, _+_}
 use mathlib.Core.List.{List, [], _∷_, _++_}
-use lib.ListN.{length, take, drop, getD}
+use lib.ListN.{take, drop, getD}
 use Rattle.reuse.specs.Limits.{maxExtents, slotCount, sumCount}
 use Rattle.session.specs.declared.Session.{Session}
 

@@ -1,6 +1,6 @@
 -- `plan::carry_out` meets its contract.
-use mathlib.Core.Path.{_≡_, sym, ap, subst, _∙_}
-use Prim.Native.Nat.{ℕ, _+_, _*_, _≤_}
+use mathlib.Core.Path.{_≡_, sym}
+use Prim.Native.Nat.{_*_, _≤_}
 use native.Mathlib.Omega.{arith}
 use lib.ListN.{length}
 use lib.Seq.{length-take-le}
@@ -8,7 +8,6 @@ use Rattle.reuse.specs.Traces.{Within}
 use Rattle.reuse.specs.Lists.{firsts}
 use Rattle.reuse.proofs.Traces.{extents-exact, extents-within, extents-over}
 use Rattle.texts.proofs.PlanSound.{sound}
-use Rattle.plan.specs.Calls.{Accepted}
 use Rattle.plan.proofs.Carrying.{many-reads, many-extents, work-short, out-short, ready, roomy, cleared-front, run-done}
 use borrow.Author.Needs.{needs}
 use Rattle.plan.proofs.carry_out.Statement.{statement}

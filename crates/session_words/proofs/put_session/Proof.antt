@@ -1,8 +1,6 @@
 -- `session_words::put_session` meets its contract.
-use mathlib.Core.Path.{_≡_}
 use Prim.Native.Nat.{_≤_}
 use native.Mathlib.Omega.{arith}
-use mathlib.Core.List.{List}
 use lib.ListN.{length, length-set}
 use Rattle.session.specs.Steps.{Wide}
 use Rattle.summary.proofs.Filling.{Filled, filled-length}

@@ -1,7 +1,7 @@
 -- `session_words::session_in` meets its contract.
-use mathlib.Core.Path.{_≡_, _∙_}
+use mathlib.Core.Path.{_∙_}
 use native.Mathlib.Omega.{arith}
-use lib.ListN.{length, getD}
+use lib.ListN.{getD}
 use Rattle.reuse.specs.Limits.{maxExtents, slotCount, sumCount}
 use Rattle.session_words.specs.Layout.{firstPlace, histPlace, slotsPlace, sumsPlace, nextPlace, part, sessionIn}
 use Rattle.session_words.proofs.Laid.{placed-whole, part-length}
