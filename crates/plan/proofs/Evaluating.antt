@@ -238,10 +238,12 @@ module _ (s : List ℕ) (at d : ℕ) (log : List ℕ) (from left : ℕ) (work ou
           → words ≡ countOf (joinCall (take (done .words) w2) (take (part .words) o2) o2 .answer)
           → o3 ≡ joinCall (take (done .words) w2) (take (part .words) o2) o2 .buffer
           → drop levelWords w3 ≡ drop levelWords w2
-          → Halfway s at d log from left work out t c rest (record { next = part .next; closes = part .closes; taken = part .taken; words = words }) w3 o3
-      part-done words w3 o3 a b k =
+          → (r : Done) → r ≡ record { next = part .next; closes = part .closes; taken = part .taken; words = words }
+          → Halfway s at d log from left work out t c rest r w3 o3
+      part-done words w3 o3 a b k r p =
           let f = wrote-front (summaryOf both) o2 both-fits in
-          record {
+          let done′ : Done = record { next = part .next; closes = part .closes; taken = part .taken; words = words } in
+          let q : Halfway s at d log from left work out t c rest done′ w3 o3 = record {
             forward = omega (arith, h .forward, e .forward);
             inside = e .inside;
             pending = n .then (part .closes) (part .next) (part .taken) (e .brackets) (e .goes-on) (e .taken);
@@ -250,14 +252,17 @@ module _ (s : List ℕ) (at d : ℕ) (log : List ℕ) (from left : ℕ) (work ou
             counted = a ∙ ap (λ (v : Wrote). countOf (v .answer)) join-is ∙ f .1;
             written = b ∙ ap (λ (v : Wrote). v .buffer) join-is ∙ f .0 ∙ over;
             kept = behind w3 k;
-          }
+          } in
+          subst (λ (v : Done). Halfway s at d log from left work out t c rest v w3 o3) (sym p) q
 
     -- the end of the join
-    pub join-done : (done .closes ≡ 0 → ⊥) → Evaluated s at log from left work out t c rest (record { next = done .next; closes = done .closes - 1; taken = done .taken; words = done .words }) w o
-    join-done z =
+    pub join-done : (done .closes ≡ 0 → ⊥) → (r : Done) → r ≡ record { next = done .next; closes = done .closes - 1; taken = done .taken; words = done .words }
+        → Evaluated s at log from left work out t c rest r w o
+    join-done z r p =
         let l = no-part s (suc d) c rest (from + reads t) (left - 1) (done .next) (done .taken) (done .closes) (h .pending) z in
         let m : h .so-far ≡ reads t = omega (arith, l .2, h .taken) in
-        record {
+        let done′ : Done = record { next = done .next; closes = done .closes - 1; taken = done .taken; words = done .words } in
+        let q : Evaluated s at log from left work out t c rest done′ w o = record {
           forward = h .forward;
           inside = h .inside;
           goes-on = l .1;
@@ -266,7 +271,8 @@ module _ (s : List ℕ) (at d : ℕ) (log : List ℕ) (from left : ℕ) (work ou
           counted = h .counted ∙ ap (λ (v : ℕ). length (summaryOf (span from v log))) m;
           written = h .written ∙ ap (λ (v : ℕ). fronted (summaryOf (span from v log)) out) m;
           kept = h .kept;
-        }
+        } in
+        subst (λ (v : Done). Evaluated s at log from left work out t c rest v w o) (sym p) q
 
 module _ (s : List ℕ) (at d : ℕ) (log : List ℕ) (from left : ℕ) (work out : List ℕ) (t : Plan) (c : ℕ) (rest : List ℕ) (done : Done) (w o : List ℕ)
     (h : Halfway s at d log from left work out t c rest done w o) (room : 2 + 3 * length (firsts log) ≤ length out) where
@@ -347,12 +353,13 @@ below-roomy s at d log work out left r p next h w o long wide = record {
 pub seg-done : (s : List ℕ) (at next : ℕ) (log : List ℕ) (from left : ℕ) (work out : List ℕ) (t : Plan) (c : ℕ) (rest : List ℕ) → Within log → 2 + 3 * length (firsts log) ≤ length out
     → at < next → next ≤ length s → (n k : ℕ) → (reads t ≡ n) × (k ≡ c) × (drop next s ≡ rest)
     → (words : ℕ) (o : List ℕ) → words ≡ countOf (traceCall (span from n log) out .answer) → o ≡ traceCall (span from n log) out .buffer
-    → Evaluated s at log from left work out t c rest (record { next = next; closes = k; taken = from + n; words = words }) work o
-seg-done s at next log from left work out t c rest within room f i n k is words o a b =
+    → (r : Done) → r ≡ record { next = next; closes = k; taken = from + n; words = words } → Evaluated s at log from left work out t c rest r work o
+seg-done s at next log from left work out t c rest within room f i n k is words o a b r p =
     let m : n ≡ reads t = sym (is .0) in
     let w = trace-within (span from n log) out (span-within log from n within) in
     let h = wrote-front (summaryOf (span from n log)) out (omega (arith, span-words log from n)) in
-    record {
+    let done : Done = record { next = next; closes = k; taken = from + n; words = words } in
+    let q : Evaluated s at log from left work out t c rest done work o = record {
       forward = f;
       inside = i;
       goes-on = is .2;
@@ -361,4 +368,5 @@ seg-done s at next log from left work out t c rest within room f i n k is words 
       counted = a ∙ ap (λ (v : Wrote). countOf (v .answer)) w ∙ h .1 ∙ ap (λ (v : ℕ). length (summaryOf (span from v log))) m;
       written = b ∙ ap (λ (v : Wrote). v .buffer) w ∙ h .0 ∙ ap (λ (v : ℕ). fronted (summaryOf (span from v log)) out) m;
       kept = refl;
-    }
+    } in
+    subst (λ (v : Done). Evaluated s at log from left work out t c rest v work o) (sym p) q

@@ -43,6 +43,18 @@ fn join_held(work: &mut [u32], held: usize, out: &mut [u32], words: usize) -> us
     count_of(summary::join(&both[..held], &both[SUMMARY_WORDS..end], out))
 }
 
+// How far evaluation has come, by its four numbers.
+fn past(next: usize, closes: usize, taken: usize, words: usize) -> Done
+    ensures { λ r. ⌜ r ≡ record { next = next; closes = closes; taken = taken; words = words } ⌝ }
+{
+    Done {
+        next,
+        closes,
+        taken,
+        words,
+    }
+}
+
 // The plan at `at` under `under` joins, on the log's reads from `from` on, with `left` levels of work words.
 pub fn evaluate(
     s: &[u8],
@@ -59,12 +71,7 @@ pub fn evaluate(
 {
     let l = plan_lines::line_at(s, at, under);
     match l {
-        Line::Bad => Done {
-            next: at,
-            closes: 0,
-            taken: from,
-            words: 0,
-        },
+        Line::Bad => past(at, 0, from, 0),
         Line::Seg {
             reads,
             closes,
@@ -72,12 +79,7 @@ pub fn evaluate(
         } => {
             let end = from + reads as usize;
             let words = count_of(summary::of_trace(&log[from..end], out));
-            Done {
-                next,
-                closes,
-                taken: end,
-                words,
-            }
+            past(next, closes, end, words)
         }
         Line::Join { next } => {
             let inner = under + 1;
@@ -90,19 +92,9 @@ pub fn evaluate(
                 reuse_rows::put(work, 0, &out[..held]);
                 let part = evaluate(s, here, inner, log, taken, below, &mut work[LEVEL..], out);
                 let words = join_held(work, held, out, part.words);
-                done = Done {
-                    next: part.next,
-                    closes: part.closes,
-                    taken: part.taken,
-                    words,
-                };
+                done = past(part.next, part.closes, part.taken, words);
             }
-            Done {
-                next: done.next,
-                closes: done.closes - 1,
-                taken: done.taken,
-                words: done.words,
-            }
+            past(done.next, done.closes - 1, done.taken, done.words)
         }
     }
 }

@@ -13,7 +13,7 @@ use Rattle.plan_lines.proofs.line_at.Tie as tie
 spaced : (c : tie.Else2) → c .before .before .before .before .args .at + c .before .run-of .result ≤ length (c .before .before .before .before .args .s .now)
 spaced c =
     let a = c .before .before .before .before .args in
-    run-within (a .s .now) (a .at) 32 (a .under) (c .before .run-of .result) (c .before .before .if1 .left) (c .before .run-of .ensures) .0
+    run-within (a .s .now) (a .at) _ (a .under) (c .before .run-of .result) (c .before .before .if1 .left) (c .before .run-of .ensures) .0
 
 returns : tie.Need-returns
 returns c = let a = c .before .before .args in past-end (a .s .now) (a .at) (a .under) (c .if1 .taken)

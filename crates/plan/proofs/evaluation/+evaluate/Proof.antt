@@ -13,6 +13,7 @@ use Rattle.texts.specs.Plans.{reads}
 use Rattle.texts.specs.PlanPlaces.{segAt, joinAt, lineAt}
 use Rattle.plan_lines.proofs.Lines.{seg-line, join-line, no-line}
 use Rattle.plan.specs.Evaluation.{countOf, span, Ready, Evaluated}
+use Rattle.plan.specs.declared.evaluation.Done.{Done}
 use Rattle.plan.proofs.Evaluating.{Halfway, ready-first, ready-next, below-roomy, below-long, first-done, held-there, holdable, part-done, join-done, restart, resume, seg-done}
 use Rattle.plan.proofs.Levels.{back-length}
 use Rattle.plan.proofs.Standing.{Opened, NextPart, some-line, seg-there, join-there, next-part}
@@ -24,6 +25,7 @@ use Rattle.plan.proofs.evaluation.evaluate.Kinds as evaluate-kinds
 use Rattle.plan.proofs.evaluation.+evaluate.Lts-evaluate as evaluate-lts
 use Rattle.plan.proofs.evaluation.count_of.Reads as count-of-reads
 use Rattle.plan.proofs.evaluation.join_held.Reads as join-held-reads
+use Rattle.plan.proofs.evaluation.past.Reads as past-reads
 use Rattle.summary.proofs.of_trace.Reads as of-trace-reads
 use Rattle.plan_lines.proofs.line_at.Reads as line-at-reads
 use Rattle.reuse_rows.proofs.put.Reads as put-reads
@@ -44,6 +46,8 @@ abbrev evaluate-claims : ℕ → evaluate-lts.Claims
 evaluate-claims t = (
   line-at-reads.Asked,
   line-at-reads.Learnt,
+  past-reads.Asked,
+  past-reads.Learnt,
   of-trace-reads.Asked,
   of-trace-reads.Learnt,
   count-of-reads.Asked,
@@ -217,6 +221,9 @@ evaluate-line-at-requires t c κs = search needs
 evaluate-enum-told : (t : ℕ) → evaluate-lts.Need-enum-told (evaluate-claims t) (evaluate-at t) evaluate.Post evaluate-Inv-loop evaluate-μ-loop
 evaluate-enum-told t c = search needs
 
+evaluate-past-requires : (t : ℕ) → evaluate-lts.Need-past-requires (evaluate-claims t) (evaluate-at t) evaluate.Post evaluate-Inv-loop evaluate-μ-loop
+evaluate-past-requires t c κs = search needs
+
 evaluate-enum-known-l : (t : ℕ) → evaluate-lts.Need-enum-known-l (evaluate-claims t) (evaluate-at t) evaluate.Post evaluate-Inv-loop evaluate-μ-loop
 evaluate-enum-known-l t c = search needs
 
@@ -240,6 +247,9 @@ evaluate-of-trace-requires t c κs = search needs
 
 evaluate-count-of-requires : (t : ℕ) → evaluate-lts.Need-count-of-requires (evaluate-claims t) (evaluate-at t) evaluate.Post evaluate-Inv-loop evaluate-μ-loop
 evaluate-count-of-requires t c κs = search needs
+
+evaluate-past-requires-2 : (t : ℕ) → evaluate-lts.Need-past-requires-2 (evaluate-claims t) (evaluate-at t) evaluate.Post evaluate-Inv-loop evaluate-μ-loop
+evaluate-past-requires-2 t c κs = search needs
 
 evaluate-enum-known-l-2 : (t : ℕ) → evaluate-lts.Need-enum-known-l-2 (evaluate-claims t) (evaluate-at t) evaluate.Post evaluate-Inv-loop evaluate-μ-loop
 evaluate-enum-known-l-2 t c = search needs
@@ -316,20 +326,24 @@ evaluate-join-held-requires t c κs =
     (l .done) (l .work) (l .out) (l .inv .2 r) (a .pre .1 .1 .within) (l .inv .0) (l .inv .1) (room-first t k)
     (next-is t (c .before .before .before .before .before .before .before .before .before .before .before .before .before) r) (c .before .before .before .before .before .before .before .before .before .before .before .put .last .0) (c .before .before .before .before .before .before .before .before .before .before .before .put .ensures ∙ placed-fits _ _ _ (held-fits t (c .before .before .before .before .before .before .before .before .before .before .before .before .before))) (c .before .before .before .before .before .before .before .before .before .before .before .put .kept .0) (e .result) (e .last .1 .1 .1 .1 .1 .1 .0) (e .last .1 .1 .1 .1 .1 .1 .1 .0) (again-back t c) (e .kept .1 .1 .1 .1 .1 .1 .1 .0) (part-is t c r)
 
+evaluate-past-requires-3 : (t : ℕ) → evaluate-lts.Need-past-requires-3 (evaluate-claims t) (evaluate-at t) evaluate.Post evaluate-Inv-loop evaluate-μ-loop
+evaluate-past-requires-3 t c κs = search needs
+
 evaluate-loop-less : (t : ℕ) → evaluate-lts.Need-loop-less (evaluate-claims t) (evaluate-at t) evaluate.Post evaluate-Inv-loop evaluate-μ-loop
 evaluate-loop-less t c =
-    let a = c .before .before .before .before .before .before .before .before .before .before .before .before .before .before .before .before .before .before .before .before .before .before .before .before .before .before .before .before .before .before .before .before .before .before .before .before .before in
-    let e = part-is t (c .before .before .before .before .before) (a .pre .1 .0) in
-    omega (arith, e .forward, e .inside)
+    let a = c .before .before .before .before .before .before .before .before .before .before .before .before .before .before .before .before .before .before .before .before .before .before .before .before .before .before .before .before .before .before .before .before .before .before .before .before .before .before in
+    let e = part-is t (c .before .before .before .before .before .before) (a .pre .1 .0) in
+    let p : c .past3 .result .next ≡ c .before .before .before .before .before .before .before .before .before .before .before .before .evaluate2 .result .next = ap (λ (v : Done). v .next) (c .past3 .ensures) in
+    omega (arith, p, e .forward, e .inside)
 
 evaluate-loop-again : (t : ℕ) → evaluate-lts.Need-loop-again (evaluate-claims t) (evaluate-at t) evaluate.Post evaluate-Inv-loop evaluate-μ-loop
 evaluate-loop-again t c =
-    let a = c .before .before .before .before .before .before .before .before .before .before .before .before .before .before .before .before .before .before .before .before .before .before .before .before .before .before .before .before .before .before .before .before .before .before .before .before .before in
-    let j = c .before .before .before .before .before in
+    let a = c .before .before .before .before .before .before .before .before .before .before .before .before .before .before .before .before .before .before .before .before .before .before .before .before .before .before .before .before .before .before .before .before .before .before .before .before .before .before in
+    let j = c .before .before .before .before .before .before in
     let k = j .before .before .before .before .before .before .before .before .before .before .before .before .before .before .before .before .before in
     let l = j .before .before .before .before .before .before .before .before .before .before .before .before .before .before .before .before .loop in
     let e = j .before .before .before .before .before .before .evaluate2 in
-    let h = c .before .before .before .before .join-held in
+    let h = c .before .before .before .before .before .join-held in
     let w = j .before .before .before .before .before .before .before .before .before .before .before .put in
     let fits : 1540 ≤ length (w .last .0) = omega (arith, w .kept .0, l .inv .0, levels-first t k, positive t (k .before .before .before .before .before .before .before .before)) in (
       h .kept .0 ∙ back-length 1540 (w .last .0) (e .last .1 .1 .1 .1 .1 .1 .0) fits (again-back t j) ∙ w .kept .0 ∙ l .inv .0,
@@ -337,47 +351,50 @@ evaluate-loop-again t c =
       λ r. part-done (a .args .s .now) (a .args .at) (a .args .under) (a .args .log .now) (a .args .from) (a .args .left) (work-first t k) (out-first t k) (r .plan) (r .closes) (r .rest) (positive t (k .before .before .before .before .before .before .before .before)) (levels-first t k)
           (l .done) (l .work) (l .out) (l .inv .2 r) (a .pre .1 .1 .within) (l .inv .0) (l .inv .1) (room-first t k)
           (next-is t (j .before .before .before .before .before .before .before .before .before .before .before .before .before) r) (w .last .0) (w .ensures ∙ placed-fits _ _ _ (held-fits t (j .before .before .before .before .before .before .before .before .before .before .before .before .before))) (w .kept .0) (e .result) (e .last .1 .1 .1 .1 .1 .1 .0) (e .last .1 .1 .1 .1 .1 .1 .1 .0) (again-back t j) (e .kept .1 .1 .1 .1 .1 .1 .1 .0) (part-is t j r)
-          (h .result) (h .last .0) (h .last .1 .1 .0) (h .ensures .0 .0) (h .ensures .0 .1) (h .ensures .1),
+          (h .result) (h .last .0) (h .last .1 .1 .0) (h .ensures .0 .0) (h .ensures .0 .1) (h .ensures .1) (c .past3 .result) (c .past3 .ensures),
     )
 
-evaluate-sub-t34 : (t : ℕ) → evaluate-lts.Need-sub-t34 (evaluate-claims t) (evaluate-at t) evaluate.Post evaluate-Inv-loop evaluate-μ-loop
-evaluate-sub-t34 t c = search needs
+evaluate-sub-past : (t : ℕ) → evaluate-lts.Need-sub-past (evaluate-claims t) (evaluate-at t) evaluate.Post evaluate-Inv-loop evaluate-μ-loop
+evaluate-sub-past t c = search needs
+
+evaluate-past-requires-4 : (t : ℕ) → evaluate-lts.Need-past-requires-4 (evaluate-claims t) (evaluate-at t) evaluate.Post evaluate-Inv-loop evaluate-μ-loop
+evaluate-past-requires-4 t c κs = search needs
 
 evaluate-returns : (t : ℕ) → evaluate-lts.Need-returns (evaluate-claims t) (evaluate-at t) evaluate.Post evaluate-Inv-loop evaluate-μ-loop
 evaluate-returns t c =
-    let a = c .before .before .before .before .before .before .before .args in
-    λ r. some-line (a .s .now) (a .at) (a .under) (r .plan) (r .closes) (r .rest) (r .stands) (no-line _ _ (c .before .before .before .before .before .before .before .pre .1 .1 .inside) _ _ (c .before .before .line-at .ensures) (c .enum-told .given .1))
+    let a = c .before .before .before .before .before .before .before .before .args in
+    λ r. some-line (a .s .now) (a .at) (a .under) (r .plan) (r .closes) (r .rest) (r .stands) (no-line _ _ (c .before .before .before .before .before .before .before .before .pre .1 .1 .inside) _ _ (c .before .before .before .line-at .ensures) (c .before .enum-told .given .1))
 
 evaluate-same-length : (t : ℕ) → evaluate-lts.Need-same-length (evaluate-claims t) (evaluate-at t) evaluate.Post evaluate-Inv-loop evaluate-μ-loop
 evaluate-same-length t c = search needs
 
 evaluate-returns-2 : (t : ℕ) → evaluate-lts.Need-returns-2 (evaluate-claims t) (evaluate-at t) evaluate.Post evaluate-Inv-loop evaluate-μ-loop
 evaluate-returns-2 t c =
-    let a = c .before .before .before .before .before .before .before .before .before .before .before .before .before .before in
-    let l = c .before .before .before .before .before .before .before in
+    let a = c .before .before .before .before .before .before .before .before .before .before .before .before .before .before .before in
+    let l = c .before .before .before .before .before .before .before .before in
     let g = l .l .given .0 in
-    let o = c .before .before .before .of-trace in
+    let o = c .before .before .before .before .of-trace in
     let n : a .args .from + g .0 - a .args .from ≡ g .0 = omega arith in
     let m : traceCall (midOf (a .args .from) (a .args .from + g .0 - a .args .from) (a .args .log .now)) (a .args .out .now) ≡ traceCall (span (a .args .from) (g .0) (a .args .log .now)) (a .args .out .now) =
     ap (λ (i : ℕ). traceCall (midOf (a .args .from) i (a .args .log .now)) (a .args .out .now)) n in
     λ r. seg-done (a .args .s .now) (a .args .at) (g .1 .1 .0) (a .args .log .now) (a .args .from) (a .args .left) (a .args .work .now) (a .args .out .now) (r .plan) (r .closes) (r .rest) (a .pre .1 .1 .within) (a .pre .1 .1 .room)
-    (segged t l .1) (segged t l .2) (g .0) (g .1 .0) (seg-is t l r) (c .count-of .result) (o .last .1 .0) (c .count-of .ensures ∙ ap countOf (o .ensures .0) ∙ ap (λ (v : Wrote). countOf (v .answer)) m) (o .ensures .1 ∙ ap (λ (v : Wrote). v .buffer) m)
+    (segged t l .1) (segged t l .2) (g .0) (g .1 .0) (seg-is t l r) (c .before .count-of .result) (o .last .1 .0) (c .before .count-of .ensures ∙ ap countOf (o .ensures .0) ∙ ap (λ (v : Wrote). countOf (v .answer)) m) (o .ensures .1 ∙ ap (λ (v : Wrote). v .buffer) m) (c .past2 .result) (c .past2 .ensures)
 
 evaluate-same-length-2 : (t : ℕ) → evaluate-lts.Need-same-length-2 (evaluate-claims t) (evaluate-at t) evaluate.Post evaluate-Inv-loop evaluate-μ-loop
-evaluate-same-length-2 t c = c .before .before .before .loop .inv .0 ∙ work-long t (c .before .before .before .before)
+evaluate-same-length-2 t c = c .before .before .before .before .loop .inv .0 ∙ work-long t (c .before .before .before .before .before)
 
 evaluate-same-length-3 : (t : ℕ) → evaluate-lts.Need-same-length-3 (evaluate-claims t) (evaluate-at t) evaluate.Post evaluate-Inv-loop evaluate-μ-loop
-evaluate-same-length-3 t c = c .before .before .before .loop .inv .1 ∙ out-wide t (c .before .before .before .before)
+evaluate-same-length-3 t c = c .before .before .before .before .loop .inv .1 ∙ out-wide t (c .before .before .before .before .before)
 
 evaluate-returns-3 : (t : ℕ) → evaluate-lts.Need-returns-3 (evaluate-claims t) (evaluate-at t) evaluate.Post evaluate-Inv-loop evaluate-μ-loop
 evaluate-returns-3 t c =
-    let a = c .before .before .before .before .before .before .before .before .before .before .before .before .before .before .before .before .before .before .before in
-    let k = c .before .before .before .before in
-    let l = c .before .before .before .loop in
+    let a = c .before .before .before .before .before .before .before .before .before .before .before .before .before .before .before .before .before .before .before .before in
+    let k = c .before .before .before .before .before in
+    let l = c .before .before .before .before .loop in
     λ r. resume (a .args .s .now) (a .args .at) (a .args .under) (a .args .log .now) (a .args .from) (a .args .left) (a .args .work .now) (a .args .out .now) (r .plan) (r .closes) (r .rest) (k .before .before .before .before .evaluate .result) (work-first t k) (out-first t k) (first-is t k r) (a .pre .1 .1 .room)
-    _ (l .work) (l .out)
+    (c .past4 .result) (l .work) (l .out)
     (join-done (a .args .s .now) (a .args .at) (a .args .under) (a .args .log .now) (a .args .from) (a .args .left) (work-first t k) (out-first t k) (r .plan) (r .closes) (r .rest) (positive t (k .before .before .before .before .before .before .before .before)) (levels-first t k)
-    (l .done) (l .work) (l .out) (l .inv .2 r) (a .pre .1 .1 .within) (l .inv .0) (l .inv .1) (room-first t k) (λ z. omega (arith, z)))
+    (l .done) (l .work) (l .out) (l .inv .2 r) (a .pre .1 .1 .within) (l .inv .0) (l .inv .1) (room-first t k) (λ z. omega (arith, z)) (c .past4 .result) (c .past4 .ensures))
 
 pub +evaluate-spec : {M : Type 1} → statement M
 +evaluate-spec = close μ-evaluate λ t. evaluate-lts.spec (evaluate-claims t)
@@ -387,6 +404,7 @@ pub +evaluate-spec : {M : Type 1} → statement M
     evaluate-μ-loop
     (evaluate-line-at-requires t)
     (evaluate-enum-told t)
+    (evaluate-past-requires t)
     (evaluate-enum-known-l t)
     (evaluate-add-end t)
     (evaluate-mul-of-trace t)
@@ -395,6 +413,7 @@ pub +evaluate-spec : {M : Type 1} → statement M
     (evaluate-part-of-trace-end t)
     (evaluate-of-trace-requires t)
     (evaluate-count-of-requires t)
+    (evaluate-past-requires-2 t)
     (evaluate-enum-known-l-2 t)
     (evaluate-add-inner t)
     (evaluate-sub-below t)
@@ -411,9 +430,11 @@ pub +evaluate-spec : {M : Type 1} → statement M
     (evaluate-part-evaluate-end-2 t)
     (evaluate-evaluate-requires-2 t)
     (evaluate-join-held-requires t)
+    (evaluate-past-requires-3 t)
     (evaluate-loop-less t)
     (evaluate-loop-again t)
-    (evaluate-sub-t34 t)
+    (evaluate-sub-past t)
+    (evaluate-past-requires-4 t)
     (evaluate-returns t)
     (evaluate-same-length t)
     (evaluate-returns-2 t)
