@@ -2,31 +2,27 @@
 use mathlib.Core.Path.{_≡_, refl}
 use Prim.Native.Nat.{ℕ, _+_, _≤_}
 use native.Mathlib.Omega.{arith}
-use mathlib.Core.List.{List, _++_, map}
+use mathlib.Core.List.{List, _++_}
 use mathlib.Core.Bool.{Bool, true, false, cond, _&&_, false≢true}
 use lib.Dec.{eqb, leb}
 use lib.ListN.{length}
 use borrow.Author.Tests.{leb-true}
 use Rattle.reuse.specs.Limits.{maxReads, maxExtents}
 use Rattle.reuse.specs.Lists.{firsts}
-use Rattle.reuse.specs.Lru.{reuses}
-use Rattle.reuse.specs.Summary.{wellFormed, readsOf, firstOf, recentOf, joinedFirst, joinOf, summaryOf}
+use Rattle.reuse.specs.Summary.{wellFormed, readsOf, firstOf, joinedFirst, summaryOf}
 use Rattle.summary.specs.declared.Written.{Written}
 use Rattle.summary.specs.Calls.{Wrote, wrote, traceCall, joinCall}
-use Rattle.after.specs.Calls.{wordOf, afterCall}
-use Rattle.session.specs.Sessions.{fresh, sound}
-use Rattle.session.specs.Summaries.{sessionWords, summaryCall}
-use Rattle.watch.specs.Watching.{newOf}
+use Rattle.after.specs.Calls.{afterCall}
+use Rattle.session.specs.Sessions.{sound}
+use Rattle.session.specs.Summaries.{summaryCall}
 use Rattle.texts.specs.Lines.{Read, got, refused as faulty}
 use Rattle.texts.specs.Logs.{logOf}
 use Rattle.texts.specs.Plans.{Plan, reads}
 use Rattle.texts.specs.PlanTexts.{planOf}
 use Rattle.plan.specs.Calls.{Ran, workWords, carriedOut, planCall, runBy, runCall}
-use Rattle.listing.specs.Listings.{sizesOf}
 use Rattle.listing_memory.specs.Calls.{listBy, listCall}
-use Rattle.session_words.specs.Layout.{sessionLength, sessionIn, sessionLaid}
+use Rattle.session_words.specs.Layout.{sessionLength, sessionIn}
 use Rattle.session_words.specs.Calls.{newSession, summaryIn}
-use Rattle.watch_words.specs.Layout.{watchLaid}
 use Rattle.watch_words.specs.Calls.{newWatch}
 use Rattle.capi_answers.specs.Answers.{mostSigned, Small}
 
@@ -59,7 +55,7 @@ module _ (buffer : List ℕ) (room : length buffer ≤ mostSigned) where
   unfolding traceCall
   small-trace t =
       small-if wordsOf (leb (length t) maxReads) _ _
-      (λ _. small-if wordsOf (leb (length (firsts t)) maxExtents) _ _ (λ _. small-wrote (summaryOf t)) tt)
+      (λ _. small-if wordsOf (leb (length (firsts t)) maxExtents) _ _ (λ _. small-wrote _) tt)
       tt
 
   -- the join
@@ -69,7 +65,7 @@ module _ (buffer : List ℕ) (room : length buffer ≤ mostSigned) where
       small-if wordsOf (wellFormed a) _ _
       (λ _. small-if wordsOf (wellFormed b) _ _
       (λ _. small-if wordsOf (leb (readsOf a + readsOf b) maxReads) _ _
-      (λ _. small-if wordsOf (leb (length (joinedFirst a b)) maxExtents) _ _ (λ _. small-wrote (joinOf a b)) tt)
+      (λ _. small-if wordsOf (leb (length (joinedFirst a b)) maxExtents) _ _ (λ _. small-wrote _) tt)
       tt)
       tt)
       tt
@@ -81,7 +77,7 @@ module _ (buffer : List ℕ) (room : length buffer ≤ mostSigned) where
       small-if wordsOf (wellFormed prefix) _ _
       (λ _. small-if wordsOf (leb (readsOf prefix + length t) maxReads) _ _
       (λ _. small-if wordsOf (leb (length (firsts (firstOf prefix ++ t))) maxExtents) _ _
-      (λ _. small-wrote (map wordOf (reuses (recentOf prefix) t)))
+      (λ _. small-wrote _)
       tt)
       tt)
       tt
@@ -112,7 +108,7 @@ module _ (buffer : List ℕ) (room : length buffer ≤ mostSigned) where
 
   -- by a log text's answer
   small-listed : (r : Read (List ℕ)) → Small (listBy r buffer .answer)
-  small-listed (got t) = small-wrote (sizesOf t)
+  small-listed (got t) = small-wrote _
   small-listed (faulty line n) = tt
 
   -- the listing of a text
@@ -123,16 +119,16 @@ module _ (buffer : List ℕ) (room : length buffer ≤ mostSigned) where
   -- a new session, and a new watch
   pub small-session : Small (newSession buffer .answer)
   unfolding newSession
-  small-session = small-wrote (sessionLaid fresh)
+  small-session = small-wrote _
 
   pub small-watch : (size : ℕ) → Small (newWatch size buffer .answer)
   unfolding newWatch
-  small-watch size = small-wrote (watchLaid (newOf size))
+  small-watch size = small-wrote _
 
   -- the summary of a session in words
   pub small-summary : (w : List ℕ) → Small (summaryIn w buffer .answer)
   unfolding summaryIn summaryCall
   small-summary w =
       small-if wordsOf (leb sessionLength (length w)) _ _
-      (λ _. small-if wordsOf (sound (sessionIn w)) _ _ (λ _. small-wrote (sessionWords (sessionIn w))) tt)
+      (λ _. small-if wordsOf (sound (sessionIn w)) _ _ (λ _. small-wrote _) tt)
       tt
