@@ -7,7 +7,7 @@ use Rattle.reuse.specs.Lru.{depth}
 use Rattle.session.specs.declared.Session.{Session}
 use Rattle.session.specs.declared.Answer.{Answer}
 use Rattle.session.specs.declared.Answer.the-variants.{Cold, Distance}
-use Rattle.session.specs.Sums.{pairs, sumsOf, zeros}
+use Rattle.session_sums.specs.Sums.{pairs, sumsOf, zeros}
 use Rattle.session.specs.Sessions.{fresh, marks, extents, marked, stackOf, firstRow, tidy, blank, same, sound}
 use Rattle.session.specs.Reads.{gathered, roomed, slotFrom, slotOf, moved, entered, taken, tooMany, readOf, sumsRead}
 

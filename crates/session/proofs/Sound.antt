@@ -10,17 +10,17 @@ use borrow.Author.Tests.{eq-eqb, eqb-true, leb-true, le-leb}
 use Rattle.reuse.specs.Lists.{mem, distinct, sum}
 use Rattle.reuse.specs.Limits.{maxReads, maxExtents, slotCount, sumCount, levels}
 use Rattle.session.specs.declared.Session.{Session}
-use Rattle.session.specs.Sums.{sumsOf}
+use Rattle.session_sums.specs.Sums.{sumsOf}
 use Rattle.session.specs.Sessions.{fresh, marks, extents, marked, stackOf, firstRow, sound}
 use Rattle.session.specs.Steps.{Wide, Trued}
 use Rattle.reuse.proofs.Lists.{by-test, both, mem-reverse}
 use Rattle.reuse.proofs.Distinct.{distinct-reverse}
 use Rattle.reuse.proofs.Sizes.{all-in, all-same}
 use Rattle.reuse.proofs.Counts.{sum-split}
-use Rattle.session.proofs.Tests.{same-of, same-eq, blank-sum, sum-blank}
-use Rattle.session.proofs.Marks.{row-length, row-tidy, row-count, tidy-row}
-use Rattle.session.proofs.Tree.{leaves, take-sums, length-sums, sums-zeros, root-of, trued-of}
-use Rattle.session.proofs.Rows.{Rows, rows-new}
+use Rattle.session_sums.proofs.Tests.{same-of, same-eq, blank-sum, sum-blank}
+use Rattle.session_marks.proofs.Marks.{row-length, row-tidy, row-count, tidy-row}
+use Rattle.session_sums.proofs.Tree.{leaves, take-sums, length-sums, sums-zeros, root-of, trued-of}
+use Rattle.session_marks.proofs.Rows.{Rows, rows-new}
 
 -- a session's rows are sound, and its sums are true
 pub record Kept (s : Session) : Type 0 where

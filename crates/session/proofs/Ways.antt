@@ -16,7 +16,7 @@ use Rattle.session.specs.Steps.{Wide, Searched, Movable, Enterable, Gath
 use Rattle.reuse.proofs.Lists.{by-test}
 use Rattle.reuse.proofs.Depth.{depth-absent}
 use Rattle.reuse.proofs.Sums.{at-le-sum, sum-drop, sum-drop-le}
-use Rattle.session.proofs.Marks.{row-tidy, slot-absent, slot-marked}
+use Rattle.session_marks.proofs.Marks.{row-tidy, slot-absent, slot-marked}
 use Rattle.session.proofs.Sound.{Kept, root, true-sound, rows-of, kept-wide, kept-trued, kept-few, kept-root}
 use Rattle.session.proofs.Taken.{Roomed, stack-mem, slot-below, slot-depth}
 

@@ -11,7 +11,7 @@ use Rattle.session.specs.declared.Session.{Session}
 use Rattle.session.specs.declared.Step.{Step}
 use Rattle.session.specs.declared.Answer.{Answer}
 use Rattle.session.specs.declared.Answer.the-variants.{Cold, Distance, Refused}
-use Rattle.session.specs.Sums.{sumsOf, zeros}
+use Rattle.session_sums.specs.Sums.{sumsOf, zeros}
 use Rattle.session.specs.Sessions.{marks, extents, marked, stackOf, sound}
 
 -- the marks moved, in order, to the slots 0 to v - 1; next is v

@@ -7,7 +7,7 @@ use lib.ListN.{take, drop, replicate}
 use Rattle.reuse.specs.Lists.{distinct, allIn, sum}
 use Rattle.reuse.specs.Limits.{maxReads, maxExtents, slotCount, sumCount, levels}
 use Rattle.session.specs.declared.Session.{Session}
-use Rattle.session.specs.Sums.{sumsOf}
+use Rattle.session_sums.specs.Sums.{sumsOf}
 
 -- a new session
 abbrev pub fresh : Session

@@ -8,7 +8,7 @@ use lib.ListN.{length, take, drop, getD}
 use Rattle.reuse.specs.Limits.{maxReads, maxExtents, slotCount, sumCount, levels}
 use Rattle.reuse.specs.Lists.{distinct, sum}
 use Rattle.session.specs.declared.Session.{Session}
-use Rattle.session.specs.Sums.{sumsOf}
+use Rattle.session_sums.specs.Sums.{sumsOf}
 use Rattle.session.specs.Sessions.{marks, extents, marked, tidy, blank, same}
 use Rattle.session.specs.Reads.{slotOf}
 

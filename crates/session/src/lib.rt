@@ -8,7 +8,7 @@ ghost use Rattle.reuse.specs.Lru.{cold, at};
 ghost use Rattle.reuse.specs.Summary.{hitsOf};
 ghost use Rattle.session.specs.Sessions.{fresh, marks, sound};
 ghost use Rattle.session.specs.Reads.{gathered, stepAt, turnedAway, readOf};
-ghost use Rattle.session.specs.Summaries.{sessionWords, summaryCall, missesCall, shareCall};
+ghost use Rattle.session_summary.specs.Summaries.{sessionWords, summaryCall, missesCall, shareCall};
 ghost use Rattle.session.specs.Steps.{Gatherable, Movable, Enterable};
 use reuse::MAX_EXTENTS;
 use reuse::MAX_READS;

@@ -5,8 +5,8 @@ use native.Mathlib.Omega.{arith}
 use lib.ListN.{take}
 use Rattle.session.specs.Sessions.{marks, extents}
 use Rattle.session.specs.Reads.{gathered}
-use Rattle.session.proofs.Tree.{leaves, trued-root}
-use Rattle.session.proofs.Marks.{row-count, tidy-row}
+use Rattle.session_sums.proofs.Tree.{leaves, trued-root}
+use Rattle.session_marks.proofs.Marks.{row-count, tidy-row}
 use borrow.Author.Needs.{needs}
 use Rattle.session.proofs.Session.gathered.Statement.{statement}
 use Rattle.session.proofs.Session.gathered.Tie as tie

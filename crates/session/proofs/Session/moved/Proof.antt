@@ -6,11 +6,11 @@ use native.Mathlib.Omega.{arith}
 use native.Mathlib.Numerals.{add-one}
 use lib.ListN.{take, drop, set, getD}
 use Rattle.reuse.specs.Lists.{sum}
-use Rattle.session.specs.Sums.{sumsOf}
+use Rattle.session_sums.specs.Sums.{sumsOf}
 use Rattle.session.specs.Steps.{Trued}
 use Rattle.session.specs.Sessions.{marks, extents}
 use Rattle.session.specs.Reads.{moved}
-use Rattle.session.proofs.Tree.{leaves, trued-set, take-sums-set}
+use Rattle.session_sums.proofs.Tree.{leaves, trued-set, take-sums-set}
 use borrow.Author.Needs.{needs}
 use Rattle.session.proofs.Session.moved.Statement.{statement}
 use Rattle.session.proofs.Session.moved.Tie as tie
