@@ -11,7 +11,8 @@ use Rattle.reuse.specs.Lists.{mem, remove, before, sum}
 use Rattle.reuse.specs.Lru.{at, depth, touch}
 use Rattle.reuse.specs.Limits.{maxExtents, slotCount}
 use Rattle.session.specs.declared.Session.{Session}
-use Rattle.session.specs.Sessions.{marks, extents, marked, stackOf, firstRow}
+use Rattle.session_marks.specs.Marks.{marked}
+use Rattle.session.specs.Sessions.{marks, extents, stackOf, firstRow}
 use Rattle.session.specs.Reads.{gathered, roomed, slotOf, moved, entered, taken}
 use Rattle.reuse.proofs.Lists.{by-test, mem-reverse, remove-absent, remove-reverse}
 use Rattle.reuse.proofs.Depth.{depth-present, depth-absent, length-before}

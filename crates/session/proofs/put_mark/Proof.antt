@@ -1,4 +1,4 @@
--- `session::walk::put_mark` meets its contract. The invariant is `Put`, how far up the change has come.
+-- `session::put_mark` meets its contract. The invariant is `Put`, how far up the change has come.
 use mathlib.Core.Path.{refl}
 use Prim.Native.Nat.{_-_}
 use native.Mathlib.Omega.{arith}
@@ -6,8 +6,8 @@ use lib.ListN.{take, set}
 use Rattle.session_sums.specs.Sums.{sumsOf}
 use Rattle.session_sums.proofs.Tree.{leaves}
 use Rattle.session_sums.proofs.Changes.{Put, put-start, put-turn, put-end, put-range, put-root}
-use Rattle.session.proofs.walk.put_mark.Statement.{statement}
-use Rattle.session.proofs.walk.put_mark.Tie as tie
+use Rattle.session.proofs.put_mark.Statement.{statement}
+use Rattle.session.proofs.put_mark.Tie as tie
 
 abbrev Inv-loop : tie.InvT-loop
 Inv-loop sums₀ s v old p₀ sums p = Put 512 (sumsOf 9 (set (take 512 sums₀) s v)) v old sums p
