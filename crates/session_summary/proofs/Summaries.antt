@@ -1,30 +1,34 @@
 -- The summary of a sound session, its misses and its share; and of one that has read a trace.
 use Prim.Native.Nat.{ℕ, _+_, _-_, _*_, _≤_, _<_}
 use mathlib.Core.Path.{_≡_, refl, sym, ap, _∙_}
-use mathlib.Core.List.{List, _∷_, _++_, reverse}
+use mathlib.Core.List.{List, reverse}
 use mathlib.Core.Bool.{true, false}
 use native.Mathlib.Omega.{arith}
-use lib.ListN.{length, take, drop, replicate}
+use lib.ListN.{length, take, replicate, length-reverse}
 use lib.Seq.{length-take-le, take-at, take-all, take-take}
-use borrow.Author.Tests.{le-leb, lt-leb}
+use borrow.Author.Tests.{le-leb}
 use Rattle.reuse.specs.Lists.{sum}
 use Rattle.reuse.specs.Cache.{cacheMisses}
 use Rattle.reuse.specs.Summary.{words, summaryOf, readsOf, extentsOf, countsOf, hitsOf, missesOf}
 use Rattle.reuse.specs.Limits.{maxExtents, slotCount}
-use Rattle.summary.specs.declared.Written.{Written}
-use Rattle.summary.specs.declared.Written.the-variants.{Words, Refused}
-use Rattle.summary.specs.declared.MissCount.the-variants.{Misses}
-use Rattle.summary.specs.declared.ShareAnswer.the-variants.{Answered}
-use Rattle.summary.specs.Calls.{Wrote, wrote, shareOf}
+use Rattle.reuse_rows.specs.Rows.{padded}
+use Rattle.summary_calls.specs.declared.MissCount.the-variants.{Misses}
+use Rattle.summary_calls.specs.declared.ShareAnswer.the-variants.{Answered}
+use Rattle.summary_calls.specs.Calls.{wrote, refused, wordsCall, shareOf}
 use Rattle.session.specs.declared.Session.{Session}
-use Rattle.session.specs.Sessions.{marks, extents, marked, stackOf, firstRow, sound}
-use Rattle.session.specs.Steps.{Wide}
+use Rattle.session_sums.specs.Sums.{filled}
+use Rattle.session_marks.specs.Marks.{marked, gatheredRow}
+use Rattle.session_marks.specs.Soundness.{Wide}
+use Rattle.session.specs.Sessions.{marks, extents, stackOf, firstRow, sound}
 use Rattle.session_summary.specs.Summaries.{sessionWords, summaryCall, missesCall, shareCall}
 use Rattle.reuse.proofs.Stack.{stack-law}
 use Rattle.reuse.proofs.Counts.{sum-split}
 use Rattle.reuse.proofs.Words.{reads-words, extents-words, counts-words, length-words}
 use Rattle.reuse.proofs.Misses.{summary-cache}
+use Rattle.reuse_rows.proofs.Padding.{padded-front}
 use Rattle.session_marks.proofs.Marks.{row-count}
+use Rattle.session_marks.proofs.Passes.{gathered-pair}
+use Rattle.session_marks.proofs.Search.{pair-of}
 use Rattle.session.proofs.Sound.{Kept, rows-of, length-first, length-stack, kept-few, root, kept-root, hist-total}
 use Rattle.session.proofs.Stands.{Stands}
 
@@ -103,19 +107,10 @@ pub share-trace : (s : Session) (t : List ℕ) (c : ℕ) → Stands s t → shar
 unfolding shareCall
 share-trace s t c g = simp (g .is-sound, session-summary s t g)
 
--- an answer, and the buffer after it
-pub record Gives (s : Session) (o : List ℕ) (r : Written) (b : List ℕ) : Type 0 where
-  pub answer : r ≡ summaryCall s o .answer
-  pub buffer : b ≡ summaryCall s o .buffer
-
--- the parts of what the call gives
-gives : (s : Session) (o : List ℕ) (r : Written) (b : List ℕ) → summaryCall s o ≡ record { answer = r; buffer = b } → Gives s o r b
-gives s o r b e = record { answer = sym (ap (λ (q : Wrote). q .answer) e); buffer = sym (ap (λ (q : Wrote). q .buffer) e) }
-
 -- a session that is not sound
-pub unsound-way : (s : Session) (o : List ℕ) → sound s ≡ false → Gives s o (Refused 7) o
+pub unsound-way : (s : Session) (o : List ℕ) → sound s ≡ false → summaryCall s o ≡ refused 7 o
 unfolding summaryCall
-unsound-way s o e = gives s o (Refused 7) o (rw e)
+unsound-way s o e = rw e
 
 module _ (s : Session) (w : Wide (s .first) (s .hist) (s .slots) (s .sums)) (ok : sound s ≡ true) where
   -- the rows of s
@@ -126,28 +121,23 @@ module _ (s : Session) (w : Wide (s .first) (s .hist) (s .slots) (s .sums)) (ok 
   pub root-few : root s ≤ maxExtents
   root-few = omega (arith, kept-root s rows, kept-few s rows)
 
-  -- the words are 2 + 3v
-  size : length (sessionWords s) ≡ 2 + 3 * root s
-  size = rw (kept-root s rows) (length-session s rows)
-
-  -- the words as the code lays them out
-  pub laid-words : (m : List ℕ) → m ≡ marked (marks s) (s .slots) ++ replicate (slotCount - length (marked (marks s) (s .slots))) 0
-      → s .reads ∷ root s ∷ take (root s) (s .first) ++ (reverse (take (root s) m) ++ take (root s) (s .hist)) ≡ sessionWords s
-  unfolding sessionWords words
-  laid-words m e =
+  -- R is the marked slots turned round
+  pub laid-recent : (m r : List ℕ) → m ≡ gatheredRow (s .slots) (s .sums) → r ≡ padded (reverse (take (root s) m)) → take (root s) r ≡ stackOf s
+  unfolding stackOf filled
+  laid-recent m r e f =
       let kept = marked (marks s) (s .slots) in
-      let front : take (extents s) m ≡ kept =
-      ap (take (extents s)) e ∙ take-at kept (replicate (slotCount - length kept) 0) (extents s) (unfold extents in row-count (rows .rows .row)) in
-      rw (kept-root s rows, front, length-first s rows) (unfold firstRow stackOf in refl)
+      let row : m ≡ filled slotCount kept = e ∙ unfold marks in gathered-pair (s .slots) (s .sums) (pair-of (s .slots) (s .sums) (w .slots-wide) (w .sums-wide)) in
+      let many : length kept ≡ root s = unfold extents in row-count (rows .rows .row) ∙ sym (kept-root s rows) in
+      let front : take (root s) m ≡ kept = ap (take (root s)) row ∙ take-at kept (replicate (slotCount - length kept) 0) (root s) many in
+      let size : length (reverse kept) ≡ root s = length-reverse kept ∙ many in
+      ap (take (root s)) (f ∙ ap (λ (l : List ℕ). padded (reverse l)) front)
+      ∙ ap (λ (k : ℕ). take k (padded (reverse kept))) (sym size)
+      ∙ padded-front (reverse kept) (omega (arith, root-few))
 
-  -- a buffer that is too short
-  pub short-way : (o : List ℕ) → length o < 2 + 3 * root s → Gives s o (Refused 6) o
-  unfolding summaryCall wrote
-  short-way o h = gives s o (Refused 6) o (rw (ok, lt-leb (length (sessionWords s)) (length o) (omega (arith, size))))
-
-  -- the words written
-  pub words-way : (o m : List ℕ) → 2 + 3 * root s ≤ length o → m ≡ sessionWords s ++ drop (2 + 3 * root s) o → Gives s o (Words (2 + 3 * root s)) m
-  unfolding summaryCall wrote
-  words-way o m h e =
-      gives s o (Words (2 + 3 * root s)) m
-      (rw (ok, le-leb (length (sessionWords s)) (length o) (omega (arith, size)), size, e))
+  -- the words written from L, F, R and H
+  pub words-way : (o m r : List ℕ) → m ≡ gatheredRow (s .slots) (s .sums) → r ≡ padded (reverse (take (root s) m))
+      → wordsCall (s .reads) (take (root s) (s .first)) (take (root s) r) (take (root s) (s .hist)) o ≡ summaryCall s o
+  unfolding summaryCall wordsCall sessionWords
+  words-way o m r e f =
+      let first : take (root s) (s .first) ≡ firstRow s = unfold firstRow in ap (λ (k : ℕ). take k (s .first)) (kept-root s rows) in
+      rw (ok, laid-recent m r e f, first, kept-root s rows, le-leb (length (firstRow s)) maxExtents (omega (arith, length-first s rows, kept-few s rows)))

@@ -4,11 +4,11 @@ use mathlib.Core.Bool.{cond}
 use mathlib.Core.List.{List}
 use lib.ListN.{take}
 use Rattle.reuse.specs.Summary.{words, readsOf, hitsOf, missesOf}
-use Rattle.summary.specs.declared.MissCount.{MissCount}
-use Rattle.summary.specs.declared.MissCount.the-variants.{Misses, Refused as NoMisses}
-use Rattle.summary.specs.declared.ShareAnswer.{ShareAnswer}
-use Rattle.summary.specs.declared.ShareAnswer.the-variants.{Answered, Refused as NoShare}
-use Rattle.summary.specs.Calls.{Wrote, wrote, refused, shareOf}
+use Rattle.summary_calls.specs.declared.MissCount.{MissCount}
+use Rattle.summary_calls.specs.declared.MissCount.the-variants.{Misses, Refused as NoMisses}
+use Rattle.summary_calls.specs.declared.ShareAnswer.{ShareAnswer}
+use Rattle.summary_calls.specs.declared.ShareAnswer.the-variants.{Answered, Refused as NoShare}
+use Rattle.summary_calls.specs.Calls.{Wrote, wrote, refused, shareOf}
 use Rattle.session.specs.declared.Session.{Session}
 use Rattle.session.specs.Sessions.{sound, extents, stackOf, firstRow}
 

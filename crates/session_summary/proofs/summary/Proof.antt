@@ -1,22 +1,23 @@
--- `session_summary::summary` meets its contract. Each return is one way of `summaryCall`.
+-- `session_summary::summary` meets its contract. A session that is not sound is refused; the words of the others are written.
 use mathlib.Core.Path.{_≡_, sym, ap, _∙_}
-use mathlib.Core.List.{List, _++_}
 use mathlib.Core.Bool.{true}
-use Prim.Native.Nat.{ℕ, _+_, _*_, _≤_}
+use Prim.Native.Nat.{_≤_}
 use native.Mathlib.Omega.{arith}
-use lib.ListN.{drop}
+use lib.ListN.{length}
+use lib.Seq.{length-take-le}
 use borrow.Author.Tests.{not-true, not-false}
 use Rattle.reuse.specs.Limits.{maxExtents}
+use Rattle.summary_calls.specs.Calls.{Wrote}
+use Rattle.session_marks.specs.Soundness.{Wide}
 use Rattle.session.specs.declared.Session.{Session}
-use Rattle.session.specs.Sessions.{marks, sound}
-use Rattle.session.specs.Steps.{Wide}
+use Rattle.session.specs.Sessions.{sound}
 use Rattle.session.proofs.Sound.{root}
-use Rattle.session_summary.proofs.Summaries.{unsound-way, root-few, laid-words, short-way, words-way}
+use Rattle.session_summary.proofs.Summaries.{unsound-way, root-few, words-way}
 use borrow.Author.Needs.{needs}
 use Rattle.session_summary.proofs.summary.Statement.{statement}
 use Rattle.session_summary.proofs.summary.Tie as tie
 
--- the start, from the place after the first test
+-- the start, from the place after the test
 abbrev start : tie.Else1 → tie.Start
 start c = c .before .before .before
 
@@ -24,17 +25,9 @@ start c = c .before .before .before
 abbrev given : tie.Else1 → Session
 given c = start c .args .t1
 
--- the place of the second test, from the gathering
-abbrev second : tie.After-gather → tie.Else2
-second c = c .before .before .before .before
-
--- the gathering, from the words laid out
-abbrev gathering : tie.After-lay-out → tie.After-gather
-gathering c = c .before .before .before .before .before .before .before .before
-
--- the place of the first test, from the gathering
-abbrev first : tie.After-gather → tie.Else1
-first c = second c .before .before
+-- the place after the test, from the gathering
+abbrev tested : tie.After-gather → tie.Else1
+tested c = c .before .before .before .before .before .before .before
 
 -- the widths of the session's arrays
 wide : (c : tie.Start) → Wide (c .args .t1 .first) (c .args .t1 .hist) (c .args .t1 .slots) (c .args .t1 .sums)
@@ -52,10 +45,10 @@ sound-requires : tie.Need-sound-requires
 sound-requires c κs = search needs
 
 returns : tie.Need-returns
-returns c =
+returns c = 
     let z = c .before .before .before in
-    let g = unsound-way (z .args .t1) (z .args .out .now) (sym (c .before .sound .ensures) ∙ not-true _ (c .if1 .taken)) in
-    (g .answer, g .buffer)
+    let e = unsound-way (z .args .t1) (z .args .out .now) (sym (c .before .sound .ensures) ∙ not-true _ (c .if1 .taken)) in
+    (sym (ap (λ (q : Wrote). q .answer) e), sym (ap (λ (q : Wrote). q .buffer) e))
 
 element-copy-out-v : tie.Need-element-copy-out-v
 element-copy-out-v c = search needs
@@ -63,57 +56,54 @@ element-copy-out-v c = search needs
 cast-v : tie.Need-cast-v
 cast-v c = search needs
 
-mul-if2 : tie.Need-mul-if2
-mul-if2 c = omega (arith, few (c .before))
-
-add-if2 : tie.Need-add-if2
-add-if2 c = omega (arith, few (c .before))
-
-returns-2 : tie.Need-returns-2
-returns-2 c =
-    let e = c .before .before in
-    let g = short-way (given e) (wide (start e)) (ok e) (start e .args .out .now) (c .if2 .taken) in
-    (g .answer, g .buffer)
-
 gather-requires : tie.Need-gather-requires
 gather-requires c κs = search needs
 
-slice-aggregate-lay-out : tie.Need-slice-aggregate-lay-out
-slice-aggregate-lay-out c = search needs
+array-share-prefix-marked : tie.Need-array-share-prefix-marked
+array-share-prefix-marked c = omega (arith, few (tested (c)))
 
-lay-out-requires : tie.Need-lay-out-requires
-lay-out-requires c κs =
-    let g = c .before .before .before .before .before .before .before in
-    let w = wide (start (first g)) in
-    let v = few (first g) in
-    record {
-      few = v;
-      room = second g .if2 .left;
-      first-wide = omega (arith, w .first-wide);
-      marked-wide = search needs;
-      hist-wide = omega (arith, w .hist-wide);
-    }
+slice-aggregate-turned : tie.Need-slice-aggregate-turned
+slice-aggregate-turned c = 
+    let n : length (c .before .gather .result) ≡ 512 = search needs in
+    sym (length-take-le _ _ (omega (arith, few (tested (c .before)))))
 
-mul-t13 : tie.Need-mul-t13
-mul-t13 c = omega (arith, few (first (gathering (c .before .before))))
+turned-requires : tie.Need-turned-requires
+turned-requires c κs = search needs
 
-add-t14 : tie.Need-add-t14
-add-t14 c = omega (arith, few (first (gathering (c .before .before))))
+array-share-prefix-first : tie.Need-array-share-prefix-first
+array-share-prefix-first c = omega (arith, few (tested (c .before .before .before .before)), wide (start (tested (c .before .before .before .before))) .first-wide)
+
+slice-aggregate-write : tie.Need-slice-aggregate-write
+slice-aggregate-write c = sym (length-take-le _ _ (omega (arith, few (tested (c .before .before .before .before .before)), wide (start (tested (c .before .before .before .before .before))) .first-wide)))
+
+array-share-prefix-recent : tie.Need-array-share-prefix-recent
+array-share-prefix-recent c = omega (arith, few (tested (c .before .before .before .before .before)))
+
+slice-aggregate-write-2 : tie.Need-slice-aggregate-write-2
+slice-aggregate-write-2 c = 
+    let n : length (c .before .before .before .before .turned .result) ≡ 256 = search needs in
+    sym (length-take-le _ _ (omega (arith, few (tested (c .before .before .before .before .before .before)))))
+
+array-share-prefix-hist : tie.Need-array-share-prefix-hist
+array-share-prefix-hist c = omega (arith, few (tested (c .before .before .before .before .before .before)), wide (start (tested (c .before .before .before .before .before .before))) .hist-wide)
+
+slice-aggregate-write-3 : tie.Need-slice-aggregate-write-3
+slice-aggregate-write-3 c = sym (length-take-le _ _ (omega (arith, few (tested (c .before .before .before .before .before .before .before)), wide (start (tested (c .before .before .before .before .before .before .before))) .hist-wide)))
+
+write-requires : tie.Need-write-requires
+write-requires c κs = search needs
 
 same-length : tie.Need-same-length
 same-length c = search needs
 
-returns-3 : tie.Need-returns-3
-unfolding marks
-returns-3 c =
-    let g = gathering (c .before .before) in
-    let e = first g in
-    let s = given e in
-    let o = start e .args .out .now in
-    let laid = laid-words s (wide (start e)) (ok e) (g .gather .result) (g .gather .ensures) in
-    let b = c .before .before .lay-out .ensures ∙ ap (λ (l : List ℕ). l ++ drop (2 + 3 * root s) o) laid in
-    let r = words-way s (wide (start e)) (ok e) o _ (second g .if2 .left) b in
-    (r .answer, r .buffer)
+returns-2 : tie.Need-returns-2
+returns-2 c = 
+    let w = c .before .before in
+    let t = w .before .before .before .before .before .before .before in
+    let g = t .before .before in
+    let z = tested g in
+    let e = words-way (given z) (wide (start z)) (ok z) (start z .args .out .now) (g .gather .result) (t .turned .result) (g .gather .ensures) (t .turned .ensures) in
+    (w .write .ensures .0 ∙ ap (λ (q : Wrote). q .answer) e, w .write .ensures .1 ∙ ap (λ (q : Wrote). q .buffer) e)
 
 pub summary-spec : {M : Type 1} → statement M
 summary-spec =
@@ -123,13 +113,16 @@ summary-spec =
     returns
     element-copy-out-v
     cast-v
-    mul-if2
-    add-if2
-    returns-2
     gather-requires
-    slice-aggregate-lay-out
-    lay-out-requires
-    mul-t13
-    add-t14
+    array-share-prefix-marked
+    slice-aggregate-turned
+    turned-requires
+    array-share-prefix-first
+    slice-aggregate-write
+    array-share-prefix-recent
+    slice-aggregate-write-2
+    array-share-prefix-hist
+    slice-aggregate-write-3
+    write-requires
     same-length
-    returns-3)
+    returns-2)
