@@ -14,10 +14,10 @@ use Rattle.reuse.specs.Summary.{wellFormed, readsOf, firstOf, recentOf}
 use Rattle.reuse.proofs.Stack.{length-reuses}
 use Rattle.reuse_rows.proofs.Padding.{padded-front, padded-length}
 use Rattle.reuse.proofs.Formed.{formed, recent-distinct, prefix-stack}
-use Rattle.summary.specs.declared.Written.the-variants.{Words}
-use Rattle.summary.specs.Calls.{wrote, refused}
-use Rattle.summary.proofs.Fields.{given, shaped}
-use Rattle.summary.proofs.Joined.{recent-size, recent-few}
+use Rattle.summary_calls.specs.declared.Written.the-variants.{Words}
+use Rattle.summary_calls.specs.Calls.{wrote, refused}
+use Rattle.summary_calls.proofs.Fields.{given, shaped}
+use Rattle.summary_calls.proofs.Fields.{recent-size, recent-few}
 use Rattle.after.specs.Calls.{wordOf, afterCall}
 use Rattle.after.specs.Passes.{Stacked, Traceable}
 

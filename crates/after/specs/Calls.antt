@@ -8,7 +8,7 @@ use Rattle.reuse.specs.Limits.{maxReads, maxExtents}
 use Rattle.reuse.specs.Lists.{firsts}
 use Rattle.reuse.specs.Lru.{Reuse, cold, at, reuses}
 use Rattle.reuse.specs.Summary.{wellFormed, readsOf, firstOf, recentOf}
-use Rattle.summary.specs.Calls.{Wrote, wrote, refused}
+use Rattle.summary_calls.specs.Calls.{Wrote, wrote, refused}
 
 -- an answer as the distance buffer writes it: 0 for cold
 abbrev pub wordOf : Reuse → ℕ

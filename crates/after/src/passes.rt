@@ -6,7 +6,7 @@ ghost use lib.ListN.{length, take, drop};
 ghost use Rattle.reuse.specs.Lru.{reuses};
 ghost use Rattle.reuse_rows.specs.Rows.{padded};
 ghost use Rattle.reuse.specs.Summary.{recentOf};
-ghost use Rattle.summary.specs.Rows.{Shaped};
+ghost use Rattle.summary_calls.specs.Shapes.{Shaped};
 ghost use Rattle.after.specs.Calls.{wordOf};
 ghost use Rattle.after.specs.Passes.{Traceable};
 

@@ -9,9 +9,9 @@ use borrow.Author.Tests.{le-leb, lt-leb}
 use Rattle.reuse.specs.Limits.{maxExtents, slotCount, sumCount}
 use Rattle.reuse_rows.specs.Rows.{putAt}
 use Rattle.reuse_rows.proofs.Puts.{put-length}
-use Rattle.summary.specs.declared.Written.the-variants.{Words}
-use Rattle.summary.specs.Calls.{refused}
-use Rattle.summary.proofs.Calls.{wrote-short, wrote-all}
+use Rattle.summary_calls.specs.declared.Written.the-variants.{Words}
+use Rattle.summary_calls.specs.Calls.{refused}
+use Rattle.summary_calls.proofs.Calls.{wrote-short, wrote-all}
 use Rattle.session.specs.declared.Session.{Session}
 use Rattle.session.specs.declared.Answer.{Answer}
 use Rattle.session.specs.declared.Answer.the-variants.{Cold, Distance, Refused}
@@ -25,8 +25,8 @@ use Rattle.watch.specs.declared.Outcome.{Outcome}
 use Rattle.watch.specs.declared.Outcome.the-variants.{Counted, Refused as NotCounted}
 use Rattle.watch.specs.Watching.{newOf, notedOf, missesCall, shareCall}
 use Rattle.watch.specs.Watching.{refused as unnoted}
-use Rattle.summary.specs.declared.MissCount.the-variants.{Refused as NoMisses}
-use Rattle.summary.specs.declared.ShareAnswer.the-variants.{Refused as NoShare}
+use Rattle.summary_calls.specs.declared.MissCount.the-variants.{Refused as NoMisses}
+use Rattle.summary_calls.specs.declared.ShareAnswer.the-variants.{Refused as NoShare}
 use Rattle.capi.specs.Answers.{isRead, isCounted}
 use Rattle.capi.specs.Layout.{sessionLength, sessionIn, sessionLaid, watchLength, watchIn, watchLaid}
 use Rattle.capi.specs.Calls.{newSession, readIn, sessionLeft, summaryIn, newWatch, readingAt, noteIn, watchLeft, missesIn, shareIn}

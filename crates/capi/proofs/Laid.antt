@@ -11,7 +11,7 @@ use Rattle.reuse_rows.specs.Rows.{putAt, placed}
 use Rattle.reuse_rows.proofs.Puts.{put-length, put-append, put-cons, put-none, placed-fits}
 use Rattle.session.specs.declared.Session.{Session}
 use Rattle.session.specs.Steps.{Wide}
-use Rattle.summary.proofs.Filling.{Filled, fill-step, filled-length}
+use Rattle.reuse_rows.proofs.Filling.{Filled, fill-step, filled-length}
 use Rattle.capi.specs.Layout.{firstPlace, histPlace, slotsPlace, sumsPlace, nextPlace, sessionLength, sessionIn, sessionLaid, part}
 
 -- words as many as the row has places

@@ -7,9 +7,9 @@ use mathlib.Core.List.{List}
 use lib.ListN.{length, take}
 use lib.Seq.{length-take-le}
 use Rattle.reuse_rows.specs.Rows.{putAt}
-use Rattle.summary.specs.declared.Written.the-variants.{Words}
-use Rattle.summary.specs.Calls.{wrote, refused}
-use Rattle.summary.proofs.Calls.{wrote-short, wrote-all}
+use Rattle.summary_calls.specs.declared.Written.the-variants.{Words}
+use Rattle.summary_calls.specs.Calls.{wrote, refused}
+use Rattle.summary_calls.proofs.Calls.{wrote-short, wrote-all}
 use Rattle.texts.specs.Lines.{Read, got, refused as faulty}
 use Rattle.texts.specs.Logs.{logOf}
 use Rattle.listing.specs.declared.Verdict.{Verdict}

@@ -13,9 +13,9 @@ use Rattle.reuse.specs.Lru.{reuses}
 use Rattle.reuse.specs.Summary.{wellFormed, readsOf, firstOf, recentOf, joinedFirst, joinOf, summaryOf}
 use Rattle.reuse.proofs.Stack.{length-reuses}
 use Rattle.reuse.proofs.Words.{length-summary}
-use Rattle.summary.specs.declared.Written.{Written}
-use Rattle.summary.specs.Calls.{Wrote, wrote, refused, traceCall, joinCall}
-use Rattle.summary.proofs.Calls.{join-length}
+use Rattle.summary_calls.specs.declared.Written.{Written}
+use Rattle.summary_calls.specs.Calls.{Wrote, wrote, refused, traceCall, joinCall}
+use Rattle.summary_calls.proofs.Calls.{join-length}
 use Rattle.after.specs.Calls.{wordOf, afterCall}
 use Rattle.session.specs.declared.Session.{Session}
 use Rattle.session.specs.Sessions.{sound}

@@ -4,13 +4,13 @@ use mathlib.Core.Bool.{Bool, true, false}
 use lib.IntN.{ℤ, pos, negℤ}
 use lib.Ieee.{Float}
 use Rattle.reuse.specs.Limits.{maxReads}
-use Rattle.summary.specs.declared.Written.{Written}
-use Rattle.summary.specs.declared.Written.the-variants.{Words, Refused}
-use Rattle.summary.specs.declared.MissCount.{MissCount}
-use Rattle.summary.specs.declared.MissCount.the-variants.{Misses, Refused as NoMisses}
-use Rattle.summary.specs.declared.HitShare.the-variants.{Share, NoReads}
-use Rattle.summary.specs.declared.ShareAnswer.{ShareAnswer}
-use Rattle.summary.specs.declared.ShareAnswer.the-variants.{Answered, Refused as NoShare}
+use Rattle.summary_calls.specs.declared.Written.{Written}
+use Rattle.summary_calls.specs.declared.Written.the-variants.{Words, Refused}
+use Rattle.summary_calls.specs.declared.MissCount.{MissCount}
+use Rattle.summary_calls.specs.declared.MissCount.the-variants.{Misses, Refused as NoMisses}
+use Rattle.summary_calls.specs.declared.HitShare.the-variants.{Share, NoReads}
+use Rattle.summary_calls.specs.declared.ShareAnswer.{ShareAnswer}
+use Rattle.summary_calls.specs.declared.ShareAnswer.the-variants.{Answered, Refused as NoShare}
 use Rattle.session.specs.declared.Answer.{Answer}
 use Rattle.session.specs.declared.Answer.the-variants.{Cold, Distance, Refused as NoRead}
 use Rattle.watch.specs.declared.Outcome.{Outcome}

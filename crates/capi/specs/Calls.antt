@@ -5,11 +5,11 @@ use mathlib.Core.List.{List}
 use lib.Dec.{leb}
 use lib.ListN.{length}
 use Rattle.reuse_rows.specs.Rows.{putAt}
-use Rattle.summary.specs.declared.MissCount.{MissCount}
-use Rattle.summary.specs.declared.MissCount.the-variants.{Refused as NoMisses}
-use Rattle.summary.specs.declared.ShareAnswer.{ShareAnswer}
-use Rattle.summary.specs.declared.ShareAnswer.the-variants.{Refused as NoShare}
-use Rattle.summary.specs.Calls.{Wrote, wrote, refused}
+use Rattle.summary_calls.specs.declared.MissCount.{MissCount}
+use Rattle.summary_calls.specs.declared.MissCount.the-variants.{Refused as NoMisses}
+use Rattle.summary_calls.specs.declared.ShareAnswer.{ShareAnswer}
+use Rattle.summary_calls.specs.declared.ShareAnswer.the-variants.{Refused as NoShare}
+use Rattle.summary_calls.specs.Calls.{Wrote, wrote, refused}
 use Rattle.session.specs.declared.Session.{Session}
 use Rattle.session.specs.declared.Step.{Step}
 use Rattle.session.specs.declared.Answer.{Answer}

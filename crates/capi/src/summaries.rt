@@ -1,7 +1,7 @@
 // Summaries as words in lent memory.
 use crate::answers;
 ghost use mathlib.Core.Path.{_≡_};
-ghost use Rattle.summary.specs.Calls.{traceCall, joinCall, missesCall, shareCall};
+ghost use Rattle.summary_calls.specs.Calls.{traceCall, joinCall, missesCall, shareCall};
 ghost use Rattle.after.specs.Calls.{afterCall};
 ghost use Rattle.capi.specs.Answers.{counted, missed, shared, shareLeft};
 

@@ -12,8 +12,8 @@ use Rattle.reuse.specs.Lists.{firsts}
 use Rattle.reuse.specs.Summary.{summaryOf}
 use Rattle.reuse.specs.Traces.{Within}
 use Rattle.reuse.proofs.Words.{length-summary}
-use Rattle.summary.specs.declared.Written.{Written}
-use Rattle.summary.specs.declared.Written.the-variants.{Words, Refused}
+use Rattle.summary_calls.specs.declared.Written.{Written}
+use Rattle.summary_calls.specs.declared.Written.the-variants.{Words, Refused}
 use Rattle.texts.specs.Digits.{tooLong}
 use Rattle.texts.specs.Lines.{Read, got, refused}
 use Rattle.texts.specs.Limits.{maxJoins}

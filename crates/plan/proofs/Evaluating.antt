@@ -17,8 +17,8 @@ use Rattle.reuse.proofs.Lists.{firsts-longer}
 use Rattle.reuse.proofs.Formed.{firsts-grow}
 use Rattle.reuse.proofs.Traces.{within-part}
 use Rattle.reuse_rows.specs.Rows.{putAt}
-use Rattle.summary.specs.Calls.{Wrote, wrote, joinCall, traceCall}
-use Rattle.summary.proofs.Traces.{join-trace, trace-within}
+use Rattle.summary_calls.specs.Calls.{Wrote, wrote, joinCall, traceCall}
+use Rattle.summary_calls.proofs.Traces.{join-trace, trace-within}
 use mathlib.Core.Logic.{inl, inr}
 use Rattle.texts.specs.Words.{close}
 use Rattle.texts.specs.Plans.{Plan, partsText, reads, depth}

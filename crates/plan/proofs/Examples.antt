@@ -9,7 +9,7 @@ use Rattle.reuse.specs.Summary.{summaryOf}
 use Rattle.reuse.specs.Traces.{Within}
 use Rattle.reuse.proofs.Examples.{seven-summary}
 use Rattle.reuse.proofs.Monoid.{empty-summary}
-use Rattle.summary.specs.declared.Written.the-variants.{Words}
+use Rattle.summary_calls.specs.declared.Written.the-variants.{Words}
 use Rattle.texts.specs.Bytes.{bytes}
 use Rattle.texts.specs.Plans.{seg, join, last, depth, partsDepth, reads, partsReads}
 use Rattle.texts.specs.PlanTexts.{planOf}

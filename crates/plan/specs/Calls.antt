@@ -8,8 +8,8 @@ use lib.ListN.{length, drop, replicate}
 use Rattle.reuse.specs.Limits.{maxReads, maxExtents}
 use Rattle.reuse.specs.Lists.{firsts}
 use Rattle.reuse.specs.Summary.{summaryOf}
-use Rattle.summary.specs.declared.Written.{Written}
-use Rattle.summary.specs.declared.Written.the-variants.{Words, Refused}
+use Rattle.summary_calls.specs.declared.Written.{Written}
+use Rattle.summary_calls.specs.declared.Written.the-variants.{Words, Refused}
 use Rattle.texts.specs.Lines.{Read, got, refused}
 use Rattle.texts.specs.Plans.{Plan, reads, depth}
 use Rattle.texts.specs.PlanTexts.{planOf}

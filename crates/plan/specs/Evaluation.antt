@@ -7,8 +7,8 @@ use Rattle.reuse.specs.Limits.{maxReads, maxExtents}
 use Rattle.reuse.specs.Lists.{firsts}
 use Rattle.reuse.specs.Summary.{summaryOf}
 use Rattle.reuse.specs.Traces.{Within}
-use Rattle.summary.specs.declared.Written.{Written}
-use Rattle.summary.specs.declared.Written.the-variants.{Words, Refused}
+use Rattle.summary_calls.specs.declared.Written.{Written}
+use Rattle.summary_calls.specs.declared.Written.the-variants.{Words, Refused}
 use Rattle.texts.specs.Limits.{maxJoins}
 use Rattle.texts.specs.Digits.{tooLong}
 use Rattle.texts.specs.Words.{close}

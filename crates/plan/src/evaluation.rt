@@ -5,7 +5,7 @@ use summary::Written;
 ghost use mathlib.Core.Path.{_≡_};
 ghost use Prim.Native.Nat.{_≤_};
 ghost use lib.ListN.{length, take, drop};
-ghost use Rattle.summary.specs.Calls.{joinCall};
+ghost use Rattle.summary_calls.specs.Calls.{joinCall};
 ghost use Rattle.plan.specs.Calls.{levelWords};
 ghost use Rattle.plan.specs.Evaluation.{countOf, Ready, Roomy, Evaluates, Holdable};
 

@@ -106,6 +106,17 @@ pub record Touched (a : List ℕ) (n x : ℕ) (r : Place) : Type 0 where
   -- the words past it are untouched
   pub rest : drop (heldAfter r n) (leftBy r n x a) ≡ drop (heldAfter r n) a
 
+module _ (a : List ℕ) (n x : ℕ) where
+  -- a depth is at least 1, whatever the count
+  pub depth-from : (d : ℕ) → placeOf a n x ≡ Depth d → 1 ≤ d
+  unfolding placeOf
+  depth-from d h = depth-within x (take n a) d (from-depth d (leb n (length a)) (ltb n (length a)) (depth (take n a) x) h) .0
+
+  -- a new extent finds room
+  pub cold-room : placeOf a n x ≡ Cold → n < length a
+  unfolding placeOf
+  cold-room h = ltb-true n (length a) (from-cold (leb n (length a)) (ltb n (length a)) (depth (take n a) x) h .0)
+
 module _ (a : List ℕ) (n x : ℕ) (fits : n ≤ length a) where
   -- an extent that is held
   module _ (d : ℕ) (h : placeOf a n x ≡ Depth d) where
@@ -137,8 +148,7 @@ module _ (a : List ℕ) (n x : ℕ) (fits : n ≤ length a) where
 
     -- there is room
     pub place-room : n < length a
-    unfolding placeOf
-    place-room = ltb-true n (length a) (from-cold (leb n (length a)) (ltb n (length a)) (depth (take n a) x) h .0)
+    place-room = cold-room a n x h
 
     -- it comes to the top, above the others
     pub touched-new : Touched a n x Cold

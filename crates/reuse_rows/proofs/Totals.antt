@@ -1,9 +1,11 @@
 -- A turn of the loop that adds the words of a row.
-use mathlib.Core.Path.{_≡_}
+use mathlib.Core.Path.{_≡_, ap}
 use Prim.Native.Nat.{ℕ, _+_, _*_, _≤_, _<_, _^_}
 use native.Mathlib.Omega.{arith}
 use mathlib.Core.List.{List}
-use lib.ListN.{length, drop, getD, drop-of-length-le}
+use lib.ListN.{length, take, drop, getD, drop-of-length-le}
+use lib.Seq.{take-all}
+use Rattle.reuse.specs.Limits.{maxExtents}
 use Rattle.reuse.specs.Lists.{sum}
 use Rattle.reuse_rows.proofs.Slices.{next-word}
 
@@ -32,3 +34,7 @@ module _ (s : List ℕ) where
     pub sum-end : length s ≤ i → t ≡ sum s
     unfolding sum
     sum-end l = let e : t + 0 ≡ sum s = rw (drop-of-length-le s {i = i} l) at (h .same) in omega arith
+
+-- no more words than the limit are all added
+pub few-total : (s : List ℕ) → length s ≤ maxExtents → sum (take maxExtents s) ≡ sum s
+few-total s l = ap sum (take-all maxExtents s l)

@@ -18,9 +18,9 @@ use Rattle.reuse.proofs.Words.{reads-summary}
 use Rattle.reuse.proofs.Join.{reuse-range}
 use Rattle.reuse.proofs.Formed.{summary-formed}
 use Rattle.reuse.proofs.Misses.{within-misses, summary-misses, summary-hits}
-use Rattle.summary.specs.declared.MissCount.the-variants.{Misses}
-use Rattle.summary.specs.declared.ShareAnswer.the-variants.{Answered}
-use Rattle.summary.specs.Calls.{shareOf}
+use Rattle.summary_calls.specs.declared.MissCount.the-variants.{Misses}
+use Rattle.summary_calls.specs.declared.ShareAnswer.the-variants.{Answered}
+use Rattle.summary_calls.specs.Calls.{shareOf}
 use Rattle.session.specs.declared.Session.{Session}
 use Rattle.session.specs.Reads.{stepAt}
 use Rattle.watch.specs.declared.Watch.{Watch}

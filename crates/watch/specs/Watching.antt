@@ -5,11 +5,11 @@ use mathlib.Core.Bool.{Bool, true, cond, _&&_}
 use lib.Dec.{eqb, leb}
 use Rattle.reuse.specs.Limits.{maxReads, maxExtents}
 use Rattle.reuse.specs.Lru.{Reuse, cold, at}
-use Rattle.summary.specs.declared.MissCount.{MissCount}
-use Rattle.summary.specs.declared.MissCount.the-variants.{Misses, Refused as NoMisses}
-use Rattle.summary.specs.declared.ShareAnswer.{ShareAnswer}
-use Rattle.summary.specs.declared.ShareAnswer.the-variants.{Answered, Refused as NoShare}
-use Rattle.summary.specs.Calls.{shareOf}
+use Rattle.summary_calls.specs.declared.MissCount.{MissCount}
+use Rattle.summary_calls.specs.declared.MissCount.the-variants.{Misses, Refused as NoMisses}
+use Rattle.summary_calls.specs.declared.ShareAnswer.{ShareAnswer}
+use Rattle.summary_calls.specs.declared.ShareAnswer.the-variants.{Answered, Refused as NoShare}
+use Rattle.summary_calls.specs.Calls.{shareOf}
 use Rattle.session.specs.declared.Answer.{Answer}
 use Rattle.session.specs.declared.Answer.the-variants.{Cold as ColdRead, Distance as DistanceRead, Refused as NoRead}
 use Rattle.watch.specs.declared.Watch.{Watch}

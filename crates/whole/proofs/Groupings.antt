@@ -11,8 +11,8 @@ use Rattle.reuse.specs.Traces.{Within}
 use Rattle.reuse.proofs.Lists.{by-test}
 use Rattle.reuse.proofs.Words.{length-summary}
 use Rattle.reuse.proofs.Traces.{within-front, within-back}
-use Rattle.summary.specs.Calls.{wrote}
-use Rattle.summary.proofs.Traces.{join-trace}
+use Rattle.summary_calls.specs.Calls.{wrote}
+use Rattle.summary_calls.proofs.Traces.{join-trace}
 use Rattle.session.specs.declared.Session.{Session}
 use Rattle.session.specs.Sessions.{fresh}
 use Rattle.session_summary.specs.Summaries.{summaryCall}

@@ -20,7 +20,7 @@ use Rattle.reuse.proofs.Join.{part-law}
 use Rattle.reuse.proofs.Monoid.{empty-summary}
 use Rattle.reuse.proofs.Formed.{summary-well-formed}
 use Rattle.reuse.proofs.Traces.{within-front}
-use Rattle.summary.specs.Calls.{wrote}
+use Rattle.summary_calls.specs.Calls.{wrote}
 use Rattle.session.specs.Sessions.{fresh}
 use Rattle.after.specs.Calls.{wordOf, afterCall}
 use Rattle.whole.specs.Runs.{accepted, handed, stopped, outcome, Grouping, parts, logOf, grouped, roomy}

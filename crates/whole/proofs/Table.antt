@@ -6,10 +6,10 @@ use lib.ListN.{replicate}
 use Rattle.reuse.specs.Lists.{mem, allIn, distinct, remove, inside, outside, before, firsts, from, sum, count}
 use Rattle.reuse.specs.Lru.{depth}
 use Rattle.reuse.specs.Summary.{words, readsOf, extentsOf, firstOf, recentOf, countsOf, wellFormed, missesOf, joinedFirst, joinedRecent, shared, across, countFor, joinedCount, joinedCounts, joinOf}
-use Rattle.summary.specs.declared.MissCount.the-variants.{Misses}
-use Rattle.summary.specs.declared.HitShare.the-variants.{NoReads}
-use Rattle.summary.specs.declared.ShareAnswer.the-variants.{Answered}
-use Rattle.summary.specs.Calls.{wrote, joinCall, missesCall, shareOf, shareCall}
+use Rattle.summary_calls.specs.declared.MissCount.the-variants.{Misses}
+use Rattle.summary_calls.specs.declared.HitShare.the-variants.{NoReads}
+use Rattle.summary_calls.specs.declared.ShareAnswer.the-variants.{Answered}
+use Rattle.summary_calls.specs.Calls.{wrote, joinCall, missesCall, shareOf, shareCall}
 use Rattle.session.specs.declared.Answer.the-variants.{Cold, Distance}
 use Rattle.session_sums.specs.Sums.{pairs, sumsOf, zeros}
 use Rattle.session.specs.Sessions.{fresh, marks, extents, marked, stackOf, firstRow, tidy, blank, same, sound}

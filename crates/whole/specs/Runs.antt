@@ -5,9 +5,9 @@ use mathlib.Core.Bool.{Bool, _&&_}
 use lib.Dec.{leb}
 use lib.ListN.{length, take}
 use Rattle.reuse.specs.Lists.{firsts}
-use Rattle.summary.specs.declared.Written.{Written}
-use Rattle.summary.specs.declared.Written.the-variants.{Words, Refused}
-use Rattle.summary.specs.Calls.{Wrote, joinCall}
+use Rattle.summary_calls.specs.declared.Written.{Written}
+use Rattle.summary_calls.specs.declared.Written.the-variants.{Words, Refused}
+use Rattle.summary_calls.specs.Calls.{Wrote, joinCall}
 use Rattle.plan.specs.Calls.{Ran}
 use Rattle.session.specs.declared.Session.{Session}
 use Rattle.session.specs.declared.Answer.{Answer}

@@ -10,7 +10,7 @@ use Rattle.reuse.specs.Limits.{maxExtents}
 use Rattle.reuse.specs.Lists.{firsts}
 use Rattle.reuse.specs.Summary.{wellFormed, firstOf}
 use Rattle.reuse.proofs.Traces.{extents-within, extents-over}
-use Rattle.summary.proofs.Fields.{shaped, first-part}
+use Rattle.summary_calls.proofs.Fields.{shaped, first-part}
 use Rattle.after.proofs.Calls.{front, traceable, refused-words, refused-reads, refused-extents, refused-room, traced}
 use borrow.Author.Needs.{needs}
 use Rattle.after.proofs.distances.Statement.{statement}

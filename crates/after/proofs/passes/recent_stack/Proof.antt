@@ -1,7 +1,7 @@
 -- `after::passes::recent_stack` meets its contract.
 use mathlib.Core.Path.{ap, _∙_}
 use Rattle.reuse_rows.specs.Rows.{padded}
-use Rattle.summary.proofs.Fields.{recent-part}
+use Rattle.summary_calls.proofs.Fields.{recent-part}
 use borrow.Author.Needs.{needs}
 use Rattle.after.proofs.passes.recent_stack.Statement.{statement}
 use Rattle.after.proofs.passes.recent_stack.Tie as tie

@@ -5,7 +5,7 @@ use native.Mathlib.Omega.{arith}
 use mathlib.Core.List.{List}
 use lib.ListN.{length, length-set}
 use Rattle.session.specs.Steps.{Wide}
-use Rattle.summary.proofs.Filling.{Filled, filled-length}
+use Rattle.reuse_rows.proofs.Filling.{Filled, filled-length}
 use Rattle.capi.specs.Layout.{sessionLength, nextPlace}
 use Rattle.capi.proofs.Laid.{laidParts, laid-parts, laid-last}
 use borrow.Author.Needs.{needs}

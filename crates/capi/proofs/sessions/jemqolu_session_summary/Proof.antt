@@ -1,6 +1,6 @@
 -- `capi::sessions::jemqolu_session_summary` meets its contract.
 use mathlib.Core.Path.{sym, ap, _∙_, subst}
-use Rattle.summary.specs.Calls.{Wrote}
+use Rattle.summary_calls.specs.Calls.{Wrote}
 use Rattle.session.specs.Steps.{Wide}
 use Rattle.session.specs.Summaries.{summaryCall}
 use Rattle.capi.specs.Answers.{Small, counted}

@@ -2,7 +2,7 @@
 use Prim.Native.Nat.{_-_}
 use native.Mathlib.Omega.{arith}
 use lib.ListN.{length}
-use Rattle.summary.proofs.Turns.{Summed, sum-start, sum-turn, sum-end}
+use Rattle.summary_cross.proofs.Turns.{Summed, sum-start, sum-turn, sum-end}
 use borrow.Author.Needs.{needs}
 use Rattle.listing.proofs.checks.total.Statement.{statement}
 use Rattle.listing.proofs.checks.total.Tie as tie

@@ -8,7 +8,7 @@ use lib.Seq.{length-take-le}
 use borrow.Rule.Slice.PartMut.{putMid, midOf}
 use Rattle.reuse.specs.Lists.{firsts}
 use Rattle.reuse_rows.proofs.Puts.{placed-fits}
-use Rattle.summary.specs.Calls.{Wrote, traceCall}
+use Rattle.summary_calls.specs.Calls.{Wrote, traceCall}
 use Rattle.texts.specs.Plans.{reads}
 use Rattle.texts.specs.PlanPlaces.{segAt, joinAt, lineAt}
 use Rattle.plan.specs.declared.lines.Line.{Line}
@@ -27,7 +27,7 @@ use Rattle.plan.proofs.evaluation.+evaluate.Lts-evaluate as evaluate-lt
 use Rattle.plan.proofs.evaluation.count_of.Reads as count-of-reads
 use Rattle.plan.proofs.evaluation.join_held.Reads as join-held-reads
 use Rattle.plan.proofs.evaluation.past.Reads as past-reads
-use Rattle.summary.proofs.of_trace.Reads as of-trace-reads
+use Rattle.summary_trace.proofs.of_trace.Reads as of-trace-reads
 use Rattle.plan.proofs.lines.line_at.Reads as line-at-reads
 use Rattle.reuse_rows.proofs.put.Reads as put-reads
 use Rattle.plan.proofs.evaluation.+evaluate.{statement}

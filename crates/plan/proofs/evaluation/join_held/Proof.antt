@@ -7,7 +7,7 @@ use lib.ListN.{length, take, drop}
 use lib.Seq.{length-take-le}
 use borrow.Rule.Slice.PartMut.{midOf}
 use Rattle.reuse_rows.proofs.Puts.{placed-fits}
-use Rattle.summary.specs.Calls.{joinCall, Wrote}
+use Rattle.summary_calls.specs.Calls.{joinCall, Wrote}
 use Rattle.plan.specs.Evaluation.{countOf}
 use Rattle.plan.proofs.Levels.{laid}
 use borrow.Author.Needs.{needs}

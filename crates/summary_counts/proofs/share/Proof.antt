@@ -1,0 +1,40 @@
+-- `summary_counts::share` meets its contract.
+use mathlib.Core.Path.{_≡_, sym, _∙_}
+use native.Mathlib.Omega.{arith}
+use mathlib.Core.Bool.{true}
+use borrow.Author.Tests.{not-true, not-false}
+use Rattle.reuse.specs.Summary.{wellFormed, readsOf}
+use Rattle.summary_calls.specs.Calls.{shareCall}
+use Rattle.summary_calls.proofs.Fields.{given, shaped}
+use borrow.Author.Needs.{needs}
+use Rattle.summary_counts.proofs.share.Statement.{statement}
+use Rattle.summary_counts.proofs.share.Tie as tie
+
+-- the words are well formed
+pass : (c : tie.Else1) → wellFormed (c .before .before .before .args .words .now) ≡ true
+pass c = sym (c .before .well-formed .ensures) ∙ not-false _ (c .if1 .left)
+
+well-formed-requires : tie.Need-well-formed-requires
+well-formed-requires c κs = search needs
+
+returns : tie.Need-returns
+unfolding shareCall
+returns c = sym (simp (sym (c .before .well-formed .ensures) ∙ not-true _ (c .if1 .taken)))
+
+hits-requires : tie.Need-hits-requires
+hits-requires c κs = given _ (pass c)
+
+shared-slice-read-share-of : tie.Need-shared-slice-read-share-of
+shared-slice-read-share-of c = omega (arith, shaped _ (pass (c .before .before)) .long)
+
+share-of-requires : tie.Need-share-of-requires
+share-of-requires c κs = search needs
+
+returns-2 : tie.Need-returns-2
+unfolding shareCall readsOf
+returns-2 c = sym (simp (pass (c .before .before .before)) (cc (c .share-of .ensures, c .before .before .hits .ensures)))
+
+pub share-spec : {M : Type 1} → statement M
+share-spec =
+    tie.close
+    (tie.spec well-formed-requires returns hits-requires shared-slice-read-share-of share-of-requires returns-2)
