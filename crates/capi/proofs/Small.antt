@@ -14,7 +14,7 @@ use Rattle.summary_calls.specs.declared.Written.{Written}
 use Rattle.summary_calls.specs.Calls.{Wrote, wrote, traceCall, joinCall}
 use Rattle.after.specs.Calls.{afterCall}
 use Rattle.session.specs.Sessions.{sound}
-use Rattle.session.specs.Summaries.{summaryCall}
+use Rattle.session_summary.specs.Summaries.{summaryCall}
 use Rattle.texts.specs.Lines.{Read, got, refused as faulty}
 use Rattle.texts.specs.Logs.{logOf}
 use Rattle.texts.specs.Plans.{Plan, reads}

@@ -3,3 +3,4 @@ pub mod Padding
 pub mod Puts
 pub mod Filling
 pub mod Totals
+pub mod Turning

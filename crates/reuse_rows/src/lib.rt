@@ -1,6 +1,7 @@
 // Rows of words: what stands in one, what it adds up to, and words put into one; bytes put into a row of bytes.
 use reuse::MAX_EXTENTS;
 ghost use mathlib.Core.Path.{_≡_};
+ghost use mathlib.Core.List.{reverse};
 ghost use Prim.Native.Nat.{_*_, _≤_, _^_};
 ghost use lib.ListN.{length, take, replicate};
 ghost use Rattle.reuse.specs.Limits.{maxExtents};
@@ -37,6 +38,24 @@ pub fn padded(words: &[u32]) -> [u32; MAX_EXTENTS]
         i = i + 1;
     }
     row
+}
+
+// The same of the words turned round: the last word first.
+pub fn turned(words: &[u32]) -> [u32; MAX_EXTENTS]
+    ensures { λ r. ⌜ r ≡ padded (reverse (now (words .entry))) ⌝ }
+{
+    let count = words.len();
+    let mut most = count;
+    if MAX_EXTENTS < most {
+        most = MAX_EXTENTS;
+    }
+    let mut back = [0u32; MAX_EXTENTS];
+    let mut i: usize = 0;
+    while i < most {
+        back[i] = words[count - 1 - i];
+        i = i + 1;
+    }
+    back
 }
 
 // The words are put to `out` from place `at` on; where they do not fit nothing is written.

@@ -14,14 +14,15 @@ use Rattle.session.specs.declared.Session.{Session}
 use Rattle.session.specs.declared.Step.{Step}
 use Rattle.session.specs.declared.Answer.{Answer}
 use Rattle.session.specs.declared.Answer.the-variants.{Distance, Refused}
-use Rattle.session.specs.Sums.{neighbours}
+use Rattle.session_sums.specs.Sums.{neighbours}
 use Rattle.session.specs.Sessions.{marks, extents, stackOf, sound}
 use Rattle.session.specs.Reads.{roomed, slotOf, stepAt, taken, turnedAway, tooMany, readOf}
-use Rattle.session.specs.Steps.{Wide}
+use Rattle.session_marks.specs.Soundness.{Wide}
 use Rattle.reuse.proofs.Lists.{by-test, both}
 use Rattle.reuse.proofs.Stack.{mem-stack}
-use Rattle.session.proofs.Walks.{neighbours-count, neighbours-total}
-use Rattle.session.proofs.Sound.{Kept, Sound, full, true-sound, kept-sound, kept-wide, kept-few, kept-trued}
+use Rattle.session_sums.proofs.Tree.{full}
+use Rattle.session_sums.proofs.Walks.{neighbours-count, neighbours-total}
+use Rattle.session.proofs.Sound.{Kept, Sound, true-sound, kept-sound, kept-wide, kept-few, kept-trued}
 use Rattle.session.proofs.Taken.{kept-roomed, kept-taken, taken-reads, slot-below, slot-depth}
 use Rattle.session.proofs.Stands.{Stands, stands-known, known-stands, known-extents, known-roomed, known-taken}
 

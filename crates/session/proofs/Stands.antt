@@ -14,9 +14,10 @@ use Rattle.reuse.specs.Lru.{at, depth, touch, stack, reuses, countAt}
 use Rattle.reuse.specs.Summary.{histogram, countFor}
 use Rattle.reuse.specs.Limits.{maxReads, maxExtents, slotCount}
 use Rattle.session.specs.declared.Session.{Session}
-use Rattle.session.specs.Sessions.{fresh, marks, extents, marked, stackOf, firstRow, sound}
+use Rattle.session_marks.specs.Marks.{marked}
+use Rattle.session_marks.specs.Soundness.{Wide}
+use Rattle.session.specs.Sessions.{fresh, marks, extents, stackOf, firstRow, sound}
 use Rattle.session.specs.Reads.{roomed, moved, entered, taken}
-use Rattle.session.specs.Steps.{Wide}
 use Rattle.reuse.proofs.Lists.{by-test, firsts-known, firsts-new}
 use Rattle.reuse.proofs.Stack.{stack-snoc, mem-stack}
 use Rattle.reuse.proofs.Depth.{depth-present, depth-absent, length-before}

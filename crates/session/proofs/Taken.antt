@@ -11,12 +11,13 @@ use Rattle.reuse.specs.Lists.{mem, remove, before, sum}
 use Rattle.reuse.specs.Lru.{at, depth, touch}
 use Rattle.reuse.specs.Limits.{maxExtents, slotCount}
 use Rattle.session.specs.declared.Session.{Session}
-use Rattle.session.specs.Sessions.{marks, extents, marked, stackOf, firstRow}
+use Rattle.session_marks.specs.Marks.{marked}
+use Rattle.session.specs.Sessions.{marks, extents, stackOf, firstRow}
 use Rattle.session.specs.Reads.{gathered, roomed, slotOf, moved, entered, taken}
 use Rattle.reuse.proofs.Lists.{by-test, mem-reverse, remove-absent, remove-reverse}
 use Rattle.reuse.proofs.Depth.{depth-present, depth-absent, length-before}
-use Rattle.session.proofs.Marks.{out-below, depth-slot}
-use Rattle.session.proofs.Rows.{gathered-marked, rows-gathered, entered-marked, entered-count, entered-first, rows-entered, moved-marked, moved-count, rows-moved}
+use Rattle.session_marks.proofs.Marks.{out-below, depth-slot}
+use Rattle.session_marks.proofs.Rows.{gathered-marked, rows-gathered, entered-marked, entered-count, entered-first, rows-entered, moved-marked, moved-count, rows-moved}
 use Rattle.session.proofs.Sound.{Kept, marks-of, kept-of, length-stack}
 
 -- one more at the end of a list turned round comes first

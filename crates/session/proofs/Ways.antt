@@ -1,5 +1,5 @@
 -- The ways of a read: what its parts rely on, and what each of its returns answers.
-use Prim.Native.Nat.{ℕ, suc, _-_, _<_}
+use Prim.Native.Nat.{ℕ, suc, _-_, _≤_, _<_}
 use mathlib.Core.Path.{_≡_, refl, sym, ap, _∙_}
 use mathlib.Core.Bool.{true, false}
 use native.Mathlib.Omega.{arith}
@@ -12,17 +12,21 @@ use Rattle.reuse.specs.Limits.{maxReads, maxExtents, slotCount}
 use Rattle.session.specs.declared.Session.{Session}
 use Rattle.session.specs.Sessions.{marks, extents, stackOf, sound}
 use Rattle.session.specs.Reads.{slotOf, stepAt, taken, turnedAway, tooMany, readOf}
-use Rattle.session.specs.Steps.{Wide, Searched, Movable, Enterable, Gatherable}
+use Rattle.session_marks.specs.Marks.{foundSlot}
+use Rattle.session_marks.specs.Soundness.{Wide, Searched, intactRows}
+use Rattle.session.specs.Steps.{Movable, Enterable, Gatherable}
 use Rattle.reuse.proofs.Lists.{by-test}
 use Rattle.reuse.proofs.Depth.{depth-absent}
 use Rattle.reuse.proofs.Sums.{at-le-sum, sum-drop, sum-drop-le}
-use Rattle.session.proofs.Marks.{row-tidy, slot-absent, slot-marked}
+use Rattle.session_marks.proofs.Marks.{row-tidy, slot-absent, slot-marked}
+use Rattle.session_marks.proofs.Search.{found-slot}
+use Rattle.session_marks.proofs.Sound.{intact-wide}
 use Rattle.session.proofs.Sound.{Kept, root, true-sound, rows-of, kept-wide, kept-trued, kept-few, kept-root}
 use Rattle.session.proofs.Taken.{Roomed, stack-mem, slot-below, slot-depth}
 
 module _ (s : Session) (k : Kept s) where
   -- what a search relies on
-  pub searched : Searched (s .slots) (s .sums) (s .next)
+  searched : Searched (s .slots) (s .sums) (s .next)
   unfolding marks
   searched = record {
     slots-wide = kept-wide s k .slots-wide;
@@ -32,6 +36,11 @@ module _ (s : Session) (k : Kept s) where
     neat = row-tidy (k .rows .row);
     apart = k .rows .apart;
   }
+
+  -- so a search finds the slot
+  pub found : (x : ℕ) → foundSlot (s .slots) (s .sums) (s .next) x ≡ slotOf s x
+  unfolding slotOf marks
+  found x = found-slot (s .slots) (s .sums) (s .next) x searched
 
   -- what gathering relies on
   pub gatherable : Gatherable s
@@ -70,10 +79,19 @@ module _ (s : Session) (k : Kept s) where
         behind : sum (drop (suc (slotOf s x)) (marks s)) < maxExtents
         behind = omega (arith, mark, sum-drop (slotOf s x) (marks s), sum-drop-le (slotOf s x) (marks s), k .rows .few)
 
+-- the test of a session's fields
+pub tested : (s : Session) → Wide (s .first) (s .hist) (s .slots) (s .sums) → intactRows (s .reads) (s .first) (s .hist) (s .slots) (s .sums) (s .next) ≡ sound s
+unfolding sound
+tested s w = intact-wide (s .reads) (s .first) (s .hist) (s .slots) (s .sums) (s .next) w
+
 -- a session that is not sound
 pub bad-way : (s : Session) (x : ℕ) → sound s ≡ false → turnedAway s 7 ≡ readOf s x
 unfolding readOf
 bad-way s x e = rw e
+
+-- the root is at most 256
+pub root-few : (s : Session) → Kept s → root s ≤ maxExtents
+root-few s k = omega (arith, kept-root s k, kept-few s k)
 
 module _ (s : Session) (w : Wide (s .first) (s .hist) (s .slots) (s .sums)) (ok : sound s ≡ true) where
   -- the rows of s

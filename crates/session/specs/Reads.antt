@@ -1,6 +1,6 @@
 -- What a read answers, and the session after it, on every session.
 use Prim.Native.Nat.{ℕ, suc, _-_}
-use mathlib.Core.List.{List, [], _∷_, _++_}
+use mathlib.Core.List.{_++_}
 use mathlib.Core.Bool.{Bool, cond, not, _&&_}
 use lib.Dec.{eqb}
 use lib.ListN.{getD, set, replicate}
@@ -11,8 +11,9 @@ use Rattle.session.specs.declared.Session.{Session}
 use Rattle.session.specs.declared.Step.{Step}
 use Rattle.session.specs.declared.Answer.{Answer}
 use Rattle.session.specs.declared.Answer.the-variants.{Cold, Distance, Refused}
-use Rattle.session.specs.Sums.{sumsOf, zeros}
-use Rattle.session.specs.Sessions.{marks, extents, marked, stackOf, sound}
+use Rattle.session_sums.specs.Sums.{sumsOf, zeros}
+use Rattle.session_marks.specs.Marks.{marked, slotFrom}
+use Rattle.session.specs.Sessions.{marks, extents, stackOf, sound}
 
 -- the marks moved, in order, to the slots 0 to v - 1; next is v
 unfoldable pub gathered : Session → Session
@@ -29,12 +30,6 @@ gathered s =
 -- with room for one more: gathered where next is 512
 unfoldable pub roomed : Session → Session
 roomed s = cond (eqb (s .next) slotCount) (gathered s) s
-
--- the marked slot that holds x; the number of slots where none does
-unfoldable pub slotFrom : List ℕ → List ℕ → ℕ → ℕ
-slotFrom [] xs x = 0
-slotFrom (m ∷ ms) [] x = 0
-slotFrom (m ∷ ms) (y ∷ ys) x = cond (eqb m 1 && eqb x y) 0 (suc (slotFrom ms ys x))
 
 -- the slot of the mark of x
 unfoldable pub slotOf : Session → ℕ → ℕ

@@ -1,26 +1,17 @@
 // A session: a trace taken read by read.
 ghost use mathlib.Core.Path.{_≡_};
-ghost use mathlib.Core.Bool.{true};
-ghost use Prim.Native.Nat.{suc};
-ghost use lib.ListN.{drop};
+ghost use Prim.Native.Nat.{suc, _≤_, _<_};
+ghost use lib.ListN.{take, drop, set};
 ghost use Rattle.reuse.specs.Lists.{sum};
 ghost use Rattle.reuse.specs.Lru.{cold, at};
-ghost use Rattle.reuse.specs.Summary.{hitsOf};
+ghost use Rattle.reuse.specs.Limits.{slotCount, levels};
+ghost use Rattle.session_sums.specs.Sums.{sumsOf, Trued};
 ghost use Rattle.session.specs.Sessions.{fresh, marks, sound};
 ghost use Rattle.session.specs.Reads.{gathered, stepAt, turnedAway, readOf};
-ghost use Rattle.session.specs.Summaries.{sessionWords, summaryCall, missesCall, shareCall};
 ghost use Rattle.session.specs.Steps.{Gatherable, Movable, Enterable};
 use reuse::MAX_EXTENTS;
 use reuse::MAX_READS;
 use reuse::SLOTS;
-use summary::MissCount;
-use summary::ShareAnswer;
-use summary::Written;
-
-mod list;
-mod row;
-mod state;
-mod walk;
 
 // The place of the sum over all marks.
 const ROOT: usize = reuse::SUMS - 1;
@@ -48,6 +39,20 @@ pub struct Step {
     pub answer: Answer,
 }
 
+// The leaf s becomes v (0 or 1), and every sum over it changes by as much.
+fn put_mark(sums: &mut [u32; 1023], s: usize, v: u32)
+    requires { ⌜ (s < slotCount) × (v ≤ 1) × Trued levels slotCount (now sums) ⌝ }
+    ensures { λ _. ⌜ now (sums .exit) ≡ sumsOf levels (set (take slotCount (now (sums .entry))) s v) ⌝ }
+{
+    let old = sums[s];
+    let mut p = s;
+    while p < ROOT {
+        sums[p] = sums[p] + v - old;
+        p = SLOTS + p / 2;
+    }
+    sums[ROOT] = sums[ROOT] + v - old;
+}
+
 impl Session {
     // A new session.
     pub fn new() -> Self
@@ -67,15 +72,15 @@ impl Session {
     pub fn sound(self) -> bool
         ensures { λ r. ⌜ r ≡ sound self ⌝ }
     {
-        let next = self.next as usize;
-        let reads = self.reads;
-        state::intact(
+        let upto = self.next as usize;
+        let counted = self.reads;
+        session_marks::intact(
             &self.first,
             &self.hist,
             &self.slots,
             &self.sums,
-            next,
-            reads,
+            upto,
+            counted,
         )
     }
 
@@ -85,8 +90,8 @@ impl Session {
         ensures { λ r. ⌜ r ≡ gathered self ⌝ }
     {
         let v = self.sums[ROOT];
-        let slots = row::gather(&self.slots, &self.sums);
-        let sums = walk::first_marks(v as usize);
+        let slots = session_marks::gather(&self.slots, &self.sums);
+        let sums = session_sums::first_marks(v as usize);
         self.slots = slots;
         self.sums = sums;
         self.next = v;
@@ -98,10 +103,10 @@ impl Session {
         requires { ⌜ Movable self x k ⌝ }
         ensures { λ r. ⌜ r ≡ stepAt self x (at (suc (sum (drop (suc k) (marks self))))) ⌝ }
     {
-        let w = walk::above(&self.sums, k);
+        let w = session_sums::above(&self.sums, k);
         let next = self.next as usize;
-        walk::put_mark(&mut self.sums, k, 0);
-        walk::put_mark(&mut self.sums, next, 1);
+        put_mark(&mut self.sums, k, 0);
+        put_mark(&mut self.sums, next, 1);
         self.slots[k] = 0;
         self.slots[next] = x;
         let t = w.total as usize;
@@ -111,7 +116,7 @@ impl Session {
         Step {
             session: self,
             answer: Answer::Distance {
-                distance: w.total + 1,
+                distance: t as u32 + 1,
                 sums_read: w.count,
             },
         }
@@ -125,7 +130,7 @@ impl Session {
         let v = self.sums[ROOT] as usize;
         let next = self.next as usize;
         self.first[v] = x;
-        walk::put_mark(&mut self.sums, next, 1);
+        put_mark(&mut self.sums, next, 1);
         self.slots[next] = x;
         self.next = self.next + 1;
         self.reads = self.reads + 1;
@@ -151,7 +156,7 @@ impl Session {
     {
         let next = self.next as usize;
         let reads = self.reads;
-        if !state::intact(
+        if !session_marks::intact(
             &self.first,
             &self.hist,
             &self.slots,
@@ -164,7 +169,7 @@ impl Session {
         if reads == MAX_READS {
             return self.refused(8);
         }
-        let mut k = row::find(&self.slots, &self.sums, next, extent);
+        let mut k = session_marks::find(&self.slots, &self.sums, next, extent);
         if k == SLOTS {
             if self.sums[ROOT] as usize == MAX_EXTENTS {
                 return self.refused(9);
@@ -173,64 +178,11 @@ impl Session {
         if next == SLOTS {
             self = self.gathered();
             let v = self.next as usize;
-            k = row::find(&self.slots, &self.sums, v, extent);
+            k = session_marks::find(&self.slots, &self.sums, v, extent);
         }
         if k == SLOTS {
             return self.entered(extent);
         }
         self.moved(extent, k)
-    }
-
-    // The summary's words at the front of the lent buffer, or the refusal.
-    pub fn summary(self, out: &mut [u32]) -> Written
-        ensures { λ r. ⌜ (r ≡ summaryCall self (now (out .entry)) .answer) × (now (out .exit) ≡ summaryCall self (now (out .entry)) .buffer) ⌝ }
-    {
-        if !self.sound() {
-            return Written::Refused(7);
-        }
-        let v = self.sums[ROOT] as usize;
-        if out.len() < 2 + 3 * v {
-            return Written::Refused(6);
-        }
-        let marked = row::gather(&self.slots, &self.sums);
-        let reads = self.reads;
-        list::lay_out(out, reads, v, &self.first, &marked[..], &self.hist);
-        Written::Words(2 + 3 * v)
-    }
-
-    // The reads of a distance of at most `size`.
-    fn hits(self, size: u32) -> u32
-        requires { ⌜ sound self ≡ true ⌝ }
-        ensures { λ r. ⌜ r ≡ hitsOf (sessionWords self) size ⌝ }
-    {
-        let v = self.sums[ROOT] as usize;
-        let mut n = size as usize;
-        if v < n {
-            n = v;
-        }
-        list::total(&self.hist, n) as u32
-    }
-
-    // The misses of a cache of this size, or the refusal.
-    pub fn misses(self, size: u32) -> MissCount
-        ensures { λ r. ⌜ r ≡ missesCall self size ⌝ }
-    {
-        if !self.sound() {
-            return MissCount::Refused(7);
-        }
-        let reads = self.reads;
-        MissCount::Misses(reads - self.hits(size))
-    }
-
-    // The share of hits of a cache of this size, or the refusal.
-    pub fn share(self, size: u32) -> ShareAnswer
-        ensures { λ r. ⌜ r ≡ shareCall self size ⌝ }
-    {
-        if !self.sound() {
-            return ShareAnswer::Refused(7);
-        }
-        let reads = self.reads;
-        let hits = self.hits(size);
-        ShareAnswer::Answered(summary::share_of(hits, reads))
     }
 }

@@ -18,7 +18,7 @@ use Rattle.session.specs.declared.Answer.the-variants.{Cold, Distance, Refused}
 use Rattle.session.specs.Sessions.{fresh}
 use Rattle.session.specs.Steps.{Wide}
 use Rattle.session.specs.Reads.{turnedAway, readOf}
-use Rattle.session.specs.Summaries.{summaryCall}
+use Rattle.session_summary.specs.Summaries.{summaryCall}
 use Rattle.session_words.specs.Layout.{sessionLength, sessionIn, sessionLaid}
 use Rattle.session_words.specs.Calls.{newSession, readIn, sessionLeft, summaryIn, isRead}
 use Rattle.session_words.proofs.Laid.{laid-length, laid-read}

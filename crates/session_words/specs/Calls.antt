@@ -12,7 +12,7 @@ use Rattle.session.specs.declared.Answer.{Answer}
 use Rattle.session.specs.declared.Answer.the-variants.{Cold, Distance, Refused}
 use Rattle.session.specs.Sessions.{fresh}
 use Rattle.session.specs.Reads.{turnedAway, readOf}
-use Rattle.session.specs.Summaries.{summaryCall}
+use Rattle.session_summary.specs.Summaries.{summaryCall}
 use Rattle.session_words.specs.Layout.{sessionLength, sessionIn, sessionLaid}
 
 -- a new session's words, or 6

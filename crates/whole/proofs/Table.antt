@@ -11,10 +11,10 @@ use Rattle.summary_calls.specs.declared.HitShare.the-variants.{NoReads}
 use Rattle.summary_calls.specs.declared.ShareAnswer.the-variants.{Answered}
 use Rattle.summary_calls.specs.Calls.{wrote, joinCall, missesCall, shareOf, shareCall}
 use Rattle.session.specs.declared.Answer.the-variants.{Cold, Distance}
-use Rattle.session.specs.Sums.{pairs, sumsOf, zeros}
+use Rattle.session_sums.specs.Sums.{pairs, sumsOf, zeros}
 use Rattle.session.specs.Sessions.{fresh, marks, extents, marked, stackOf, firstRow, tidy, blank, same, sound}
 use Rattle.session.specs.Reads.{gathered, roomed, slotFrom, slotOf, moved, entered, taken, tooMany, readOf, sumsRead}
-use Rattle.session.specs.Summaries.{sessionWords, summaryCall}
+use Rattle.session_summary.specs.Summaries.{sessionWords, summaryCall}
 use Rattle.whole.specs.Runs.{sessionAfter, answersOf, handed, outcome, Grouping, part, joined, grouped}
 
 -- a lent buffer of 20 words

@@ -15,7 +15,7 @@ use Rattle.after.specs.Calls.{wordOf}
 use Rattle.session.specs.declared.Answer.{Answer}
 use Rattle.session.specs.declared.Answer.the-variants.{Cold, Distance, Refused}
 use Rattle.session.specs.Sessions.{fresh}
-use Rattle.session.specs.Summaries.{summaryCall}
+use Rattle.session_summary.specs.Summaries.{summaryCall}
 use Rattle.texts.specs.Lines.{got}
 use Rattle.texts.specs.Plans.{Plan, reads as planReads}
 use Rattle.texts.specs.PlanTexts.{planOf}

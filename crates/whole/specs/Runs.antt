@@ -14,7 +14,7 @@ use Rattle.session.specs.declared.Answer.{Answer}
 use Rattle.session.specs.declared.Answer.the-variants.{Cold, Distance, Refused as NoRead}
 use Rattle.session.specs.Sessions.{fresh}
 use Rattle.session.specs.Reads.{readOf}
-use Rattle.session.specs.Summaries.{summaryCall}
+use Rattle.session_summary.specs.Summaries.{summaryCall}
 
 -- the session after a list of read calls: each gets the session that the last returned, refused or not
 unfoldable pub sessionAfter : Session → List ℕ → Session

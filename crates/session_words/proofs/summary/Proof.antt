@@ -1,7 +1,7 @@
 -- `session_words::summary` meets its contract.
 use mathlib.Core.Path.{sym, ap, _∙_}
 use Rattle.summary_calls.specs.Calls.{Wrote}
-use Rattle.session.specs.Summaries.{summaryCall}
+use Rattle.session_summary.specs.Summaries.{summaryCall}
 use Rattle.session_words.proofs.Kept.{summary-short, summary-all}
 use borrow.Author.Needs.{needs}
 use Rattle.session_words.proofs.summary.Statement.{statement}

@@ -5,7 +5,7 @@ use native.Mathlib.Omega.{arith}
 use native.Mathlib.Numerals.{add-one}
 use Rattle.session.specs.Sessions.{marks, extents}
 use Rattle.session.specs.Reads.{entered}
-use Rattle.session.proofs.Tree.{leaves, trued-root}
+use Rattle.session_sums.proofs.Tree.{leaves, trued-root}
 use borrow.Author.Needs.{needs}
 use Rattle.session.proofs.Session.entered.Statement.{statement}
 use Rattle.session.proofs.Session.entered.Tie as tie

@@ -1,12 +1,16 @@
 -- `session::Session::gathered` meets its contract. From what `gather` and `first_marks` ensure.
-use mathlib.Core.Path.{refl}
+use mathlib.Core.Path.{refl, _∙_}
 use Prim.Native.Nat.{_-_}
 use native.Mathlib.Omega.{arith}
 use lib.ListN.{take}
+use Rattle.session_sums.specs.Sums.{filled}
 use Rattle.session.specs.Sessions.{marks, extents}
 use Rattle.session.specs.Reads.{gathered}
-use Rattle.session.proofs.Tree.{leaves, trued-root}
-use Rattle.session.proofs.Marks.{row-count, tidy-row}
+use Rattle.session_sums.proofs.Tree.{full, trued-root, trued-wide}
+use Rattle.session_sums.proofs.Filled.{first-marks}
+use Rattle.session_marks.proofs.Marks.{row-count, tidy-row}
+use Rattle.session_marks.proofs.Passes.{gathered-pair}
+use Rattle.session_marks.proofs.Search.{pair-of}
 use borrow.Author.Needs.{needs}
 use Rattle.session.proofs.Session.gathered.Statement.{statement}
 use Rattle.session.proofs.Session.gathered.Tie as tie
@@ -21,17 +25,19 @@ cast-first-marks : tie.Need-cast-first-marks
 cast-first-marks c = search needs
 
 first-marks-requires : tie.Need-first-marks-requires
-unfolding leaves
-first-marks-requires c κs = omega (arith, trued-root 9 512 _ (c .before .before .before .before .before .pre .trued) refl, c .before .before .before .before .before .pre .trued .few)
+first-marks-requires c κs = search needs
 
 returns : tie.Need-returns
-unfolding leaves extents marks gathered
+unfolding extents marks gathered filled
 returns c =
-    let p = c .before .before .before .before .before .before .pre in
-    let s = c .before .before .before .before .before .before .args .t1 in
-    let e = trued-root 9 512 (s .sums) (p .trued) refl in
+    let g = c .before in
+    let z = g .before .before .before .before .before .before .before in
+    let p = z .pre in
+    let s = z .args .t1 in
+    let e = trued-root 9 512 (s .sums) (p .trued) full in
     let n = row-count (tidy-row (take 512 (s .sums)) (s .slots) (omega (arith, p .slots-wide, p .trued .full)) (p .neat)) in
-    rw (c .before .gather .ensures, n, c .first-marks .ensures, e)
+    let slots = g .gather .ensures ∙ gathered-pair (s .slots) (s .sums) (pair-of (s .slots) (s .sums) (p .slots-wide) (trued-wide (s .sums) (p .trued))) in
+    rw (slots, n, c .first-marks .ensures, e, first-marks _ (p .trued .few))
 
 pub gathered-spec : {M : Type 1} → statement M
 gathered-spec =

@@ -1,19 +1,38 @@
 -- `session::Session::moved` meets its contract. From what `above` and `put_mark` ensure.
 use mathlib.Core.Path.{_≡_, refl, sym, ap, subst, _∙_}
 use mathlib.Core.List.{List}
-use Prim.Native.Nat.{ℕ, suc, _-_}
+use Prim.Native.Nat.{ℕ, suc, _-_, _<_}
 use native.Mathlib.Omega.{arith}
 use native.Mathlib.Numerals.{add-one}
 use lib.ListN.{take, drop, set, getD}
 use Rattle.reuse.specs.Lists.{sum}
-use Rattle.session.specs.Sums.{sumsOf}
-use Rattle.session.specs.Steps.{Trued}
+use Rattle.session_sums.specs.declared.Walked.{Walked}
+use Rattle.session_sums.specs.Sums.{sumsOf, zeros, Trued}
 use Rattle.session.specs.Sessions.{marks, extents}
 use Rattle.session.specs.Reads.{moved}
-use Rattle.session.proofs.Tree.{leaves, trued-set, take-sums-set}
+use Rattle.session_sums.proofs.Tree.{full, trued-set, take-sums-set}
+use Rattle.session_sums.proofs.Walks.{walked-trued}
 use borrow.Author.Needs.{needs}
 use Rattle.session.proofs.Session.moved.Statement.{statement}
 use Rattle.session.proofs.Session.moved.Tie as tie
+
+-- the start, from the place after the walk
+abbrev start : tie.After-above → tie.Start
+start c = c .before .before .before .before
+
+-- what the walk read
+walked : (c : tie.After-above)
+    → c .above .result ≡ record { total = sum (drop (suc (start c .args .k)) (take 512 (start c .args .t1 .sums))); count = zeros 9 (start c .args .k) }
+walked c = c .above .ensures ∙ walked-trued _ _ (start c .pre .trued) (omega (arith, start c .pre .below, start c .pre .room))
+
+-- the marks behind slot k
+total : (c : tie.After-above) → c .above .result .total ≡ sum (drop (suc (start c .args .k)) (marks (start c .args .t1)))
+unfolding marks
+total c = ap (λ (w : Walked). w .total) (walked c)
+
+-- fewer than 256
+small : (c : tie.After-above) → c .above .result .total < 256
+small c = omega (arith, total c, start c .pre .behind)
 
 above-requires : tie.Need-above-requires
 above-requires c κs = search needs
@@ -25,10 +44,10 @@ put-mark-requires : tie.Need-put-mark-requires
 put-mark-requires c κs = search needs
 
 put-mark-requires-2 : tie.Need-put-mark-requires-2
-unfolding leaves extents marks
+unfolding extents marks
 put-mark-requires-2 c κs =
-    let h = c .before .before .before .before .before .before .pre in
-    (h .room, omega arith, subst (λ (l : List ℕ). Trued 9 512 l) (sym (c .before .put-mark .ensures)) (trued-set 9 512 _ _ 0 (h .trued) refl (omega (arith, h .few))))
+    let h = start (c .before .before .before) .pre in
+    (h .room, omega arith, subst (λ (l : List ℕ). Trued 9 512 l) (sym (c .before .put-mark .ensures)) (trued-set 9 512 _ _ 0 (h .trued) full (omega (arith, h .few))))
 
 mul-self : tie.Need-mul-self
 mul-self c = search needs
@@ -42,28 +61,22 @@ mul-self-2 c = search needs
 element-write-self-2 : tie.Need-element-write-self-2
 element-write-self-2 c = search needs
 
-cast-t : tie.Need-cast-t
-cast-t c = search needs
-
 mul-self-3 : tie.Need-mul-self-3
-mul-self-3 c = search needs
+mul-self-3 c = omega (arith, small (c .before .before .before .before))
 
 element-copy-out-self : tie.Need-element-copy-out-self
-unfolding marks
-element-copy-out-self c = omega (arith, c .before .before .before .before .before .above .ensures .0, c .before .before .before .before .before .before .before .before .pre .behind)
+element-copy-out-self c = omega (arith, small (c .before .before .before .before))
 
 add-self : tie.Need-add-self
-unfolding marks
 add-self c =
-    let e = c .before .before .before .before .before .before .above .ensures .0 in
-    omega (arith, c .before .before .before .before .before .before .before .before .before .pre .counted, ap (λ (n : ℕ). getD (c .before .before .before .before .before .before .before .before .before .args .t1 .hist) n 0) e)
+    let a = c .before .before .before .before .before in
+    omega (arith, start a .pre .counted, ap (λ (n : ℕ). getD (start a .args .t1 .hist) n 0) (total a))
 
 mul-self-4 : tie.Need-mul-self-4
-mul-self-4 c = search needs
+mul-self-4 c = omega (arith, small (c .before .before .before .before .before))
 
 element-write-self-3 : tie.Need-element-write-self-3
-unfolding marks
-element-write-self-3 c = omega (arith, c .before .before .before .before .before .before .above .ensures .0, c .before .before .before .before .before .before .before .before .before .pre .behind)
+element-write-self-3 c = omega (arith, small (c .before .before .before .before .before))
 
 add-self-2 : tie.Need-add-self-2
 add-self-2 c = search needs
@@ -71,22 +84,25 @@ add-self-2 c = search needs
 add-self-3 : tie.Need-add-self-3
 add-self-3 c = search needs
 
-add-t9 : tie.Need-add-t9
-unfolding marks
-add-t9 c = omega (arith, c .before .before .before .before .before .before .before .above .ensures .0, c .before .before .before .before .before .before .before .before .before .before .pre .behind)
+cast-t10 : tie.Need-cast-t10
+cast-t10 c = omega (arith, small (c .before .before .before .before .before))
+
+add-t21 : tie.Need-add-t21
+add-t21 c = omega (arith, small (c .before .before .before .before .before))
 
 returns : tie.Need-returns
-unfolding leaves marks moved
+unfolding marks moved
 returns c =
-    let p = c .before .before .before .before .before .before .before .before .before .before .pre in
-    let s = c .before .before .before .before .before .before .before .before .before .before .args .t1 in
-    let k = c .before .before .before .before .before .before .before .before .before .before .args .k in
+    let a = c .before .before .before .before .before in
+    let p = start a .pre in
+    let s = start a .args .t1 in
+    let k = start a .args .k in
     let n = sum (drop (suc k) (take 512 (s .sums))) in
     let back : suc n - 1 ≡ n = omega arith in
-    let e : c .before .before .before .put-mark2 .last .0 ≡ sumsOf 9 (set (set (take 512 (s .sums)) k 0) (s .next) 1) =
-    c .before .before .before .put-mark2 .ensures
-    ∙ ap (λ (l : List ℕ). sumsOf 9 (set l (s .next) 1)) (ap (take 512) (c .before .before .before .before .before .put-mark .ensures) ∙ take-sums-set 9 512 (s .sums) k 0 (p .trued) refl) in
-    simp (add-one, ← p .here, back, c .before .before .before .before .before .before .before .above .ensures .0, c .before .before .before .before .before .before .before .above .ensures .1, e)
+    let e : c .before .put-mark2 .last .0 ≡ sumsOf 9 (set (set (take 512 (s .sums)) k 0) (s .next) 1) =
+    c .before .put-mark2 .ensures
+    ∙ ap (λ (l : List ℕ). sumsOf 9 (set l (s .next) 1)) (ap (take 512) (c .before .before .before .put-mark .ensures) ∙ take-sums-set 9 512 (s .sums) k 0 (p .trued) full) in
+    simp (add-one, ← p .here, back, walked a, e)
 
 pub moved-spec : {M : Type 1} → statement M
 moved-spec =
@@ -100,7 +116,6 @@ moved-spec =
     element-write-self
     mul-self-2
     element-write-self-2
-    cast-t
     mul-self-3
     element-copy-out-self
     add-self
@@ -108,5 +123,6 @@ moved-spec =
     element-write-self-3
     add-self-2
     add-self-3
-    add-t9
+    cast-t10
+    add-t21
     returns)

@@ -1,0 +1,93 @@
+-- `session_marks::find` meets its contract. The invariant: the search below i answers what the whole search does.
+use mathlib.Core.Path.{_≡_, sym, _∙_}
+use Prim.Native.Nat.{_≤_}
+use native.Mathlib.Omega.{arith}
+use lib.ListN.{length}
+use borrow.Author.Tests.{not-true, not-false}
+use Rattle.session_marks.specs.Marks.{lastBelow, foundSlot}
+use Rattle.session_marks.proofs.Search.{pair-wide, last-hit, last-other, last-bare, last-none, found-pair, found-other, found-past}
+use borrow.Author.Needs.{needs}
+use Rattle.session_marks.proofs.find.Statement.{statement}
+use Rattle.session_marks.proofs.find.Tie as tie
+
+abbrev Inv-loop : tie.InvT-loop
+Inv-loop slots sums next x i₀ i = (length slots ≡ 512) × (length sums ≡ 1023) × (i ≤ 512) × (lastBelow slots sums x i ≡ foundSlot slots sums next x)
+
+abbrev μ-loop : tie.MeasureT-loop
+μ-loop slots sums next x i₀ i = i
+
+paired-requires : tie.Need-paired-requires Inv-loop μ-loop
+paired-requires c κs = search needs
+
+returns : tie.Need-returns Inv-loop μ-loop
+returns c = sym (found-other _ _ _ _ (sym (c .before .paired .ensures) ∙ not-true _ (c .if1 .taken)))
+
+returns-2 : tie.Need-returns-2 Inv-loop μ-loop
+returns-2 c = sym (found-past _ _ _ _ (sym (c .before .before .paired .ensures) ∙ not-false _ (c .before .if1 .left)) (c .if2 .taken))
+
+loop-holds : tie.Need-loop-holds Inv-loop μ-loop
+loop-holds c =
+    let p = sym (c .before .before .paired .ensures) ∙ not-false _ (c .before .if1 .left) in
+    let w = pair-wide _ _ p in
+    (w .0, w .1, c .if2 .left, sym (found-pair _ _ _ _ p (c .if2 .left)))
+
+sub-i : tie.Need-sub-i Inv-loop μ-loop
+sub-i c = omega arith
+
+mul-if3 : tie.Need-mul-if3 Inv-loop μ-loop
+mul-if3 c = omega arith
+
+shared-slice-read-if3 : tie.Need-shared-slice-read-if3 Inv-loop μ-loop
+shared-slice-read-if3 c = omega arith
+
+mul-if4 : tie.Need-mul-if4 Inv-loop μ-loop
+mul-if4 c = omega arith
+
+shared-slice-read-if4 : tie.Need-shared-slice-read-if4 Inv-loop μ-loop
+shared-slice-read-if4 c = omega arith
+
+returns-3 : tie.Need-returns-3 Inv-loop μ-loop
+returns-3 c =
+    let l = c .before .before .before .before .before .loop in
+    sym (last-hit _ _ _ (l .i) (omega arith) (c .before .before .if3 .taken) (c .if4 .taken)) ∙ l .inv .3
+
+loop-less : tie.Need-loop-less Inv-loop μ-loop
+loop-less c = omega arith
+
+loop-again : tie.Need-loop-again Inv-loop μ-loop
+loop-again c =
+    let l = c .before .before .before .before .before .loop in
+    (l .inv .0, l .inv .1, omega arith, sym (last-bare _ _ _ (l .i) (omega arith) (c .if4 .left)) ∙ l .inv .3)
+
+loop-less-2 : tie.Need-loop-less-2 Inv-loop μ-loop
+loop-less-2 c = omega arith
+
+loop-again-2 : tie.Need-loop-again-2 Inv-loop μ-loop
+loop-again-2 c =
+    let l = c .before .before .before .loop in
+    (l .inv .0, l .inv .1, omega arith, sym (last-other _ _ _ (l .i) (omega arith) (c .if3 .left)) ∙ l .inv .3)
+
+returns-4 : tie.Need-returns-4 Inv-loop μ-loop
+returns-4 c = sym (last-none _ _ _ (c .before .loop .i) (omega arith)) ∙ c .before .loop .inv .3
+
+pub find-spec : {M : Type 1} → statement M
+find-spec =
+    tie.close
+    (tie.spec
+    Inv-loop
+    μ-loop
+    paired-requires
+    returns
+    returns-2
+    loop-holds
+    sub-i
+    mul-if3
+    shared-slice-read-if3
+    mul-if4
+    shared-slice-read-if4
+    returns-3
+    loop-less
+    loop-again
+    loop-less-2
+    loop-again-2
+    returns-4)

@@ -1,0 +1,43 @@
+-- Slots beside their marks: the marked ones, the slot of an extent, and the marked ones gathered.
+use Prim.Native.Nat.{ℕ, zero, suc}
+use mathlib.Core.List.{List, [], _∷_}
+use mathlib.Core.Bool.{Bool, true, cond, _&&_, _||_}
+use lib.Dec.{eqb, leb}
+use lib.ListN.{length, take, getD}
+use Rattle.reuse.specs.Limits.{slotCount, sumCount}
+use Rattle.session_sums.specs.Sums.{filled}
+
+-- the extents of the marked slots, in the slots' order
+unfoldable pub marked : List ℕ → List ℕ → List ℕ
+marked [] xs = []
+marked (m ∷ ms) [] = []
+marked (m ∷ ms) (x ∷ xs) = cond (eqb m 1) (x ∷ marked ms xs) (marked ms xs)
+
+-- each leaf is 0 or 1, and an unmarked slot holds 0
+unfoldable pub tidy : List ℕ → List ℕ → Bool
+tidy [] xs = true
+tidy (m ∷ ms) [] = true
+tidy (m ∷ ms) (x ∷ xs) = leb m 1 && (eqb m 1 || eqb x 0) && tidy ms xs
+
+-- the marked slot that holds x; the number of slots where none does
+unfoldable pub slotFrom : List ℕ → List ℕ → ℕ → ℕ
+slotFrom [] xs x = 0
+slotFrom (m ∷ ms) [] x = 0
+slotFrom (m ∷ ms) (y ∷ ys) x = cond (eqb m 1 && eqb x y) 0 (suc (slotFrom ms ys x))
+
+-- rows as long as a session's slots and sums
+unfoldable pub paired : List ℕ → List ℕ → Bool
+paired slots sums = eqb (length slots) slotCount && eqb (length sums) sumCount
+
+-- the last marked slot below n that holds x; the number of slots where none does
+unfoldable pub lastBelow : List ℕ → List ℕ → ℕ → ℕ → ℕ
+lastBelow slots sums x zero = slotCount
+lastBelow slots sums x (suc i) = cond (eqb (getD slots i 0) x && eqb (getD sums i 0) 1) i (lastBelow slots sums x i)
+
+-- the same in a session's rows; none is found in other rows, or below a slot that there is not
+unfoldable pub foundSlot : List ℕ → List ℕ → ℕ → ℕ → ℕ
+foundSlot slots sums next x = cond (paired slots sums && leb next slotCount) (lastBelow slots sums x next) slotCount
+
+-- the marked slots of a session's rows moved, in order, to the first slots, 0 in the others; no marked slots in other rows
+unfoldable pub gatheredRow : List ℕ → List ℕ → List ℕ
+gatheredRow slots sums = filled slotCount (cond (paired slots sums) (marked (take slotCount sums) slots) [])

@@ -1,0 +1,143 @@
+-- The summary of a sound session, its misses and its share; and of one that has read a trace.
+use Prim.Native.Nat.{ℕ, _+_, _-_, _*_, _≤_, _<_}
+use mathlib.Core.Path.{_≡_, refl, sym, ap, _∙_}
+use mathlib.Core.List.{List, reverse}
+use mathlib.Core.Bool.{true, false}
+use native.Mathlib.Omega.{arith}
+use lib.ListN.{length, take, replicate, length-reverse}
+use lib.Seq.{length-take-le, take-at, take-all, take-take}
+use borrow.Author.Tests.{le-leb}
+use Rattle.reuse.specs.Lists.{sum}
+use Rattle.reuse.specs.Cache.{cacheMisses}
+use Rattle.reuse.specs.Summary.{words, summaryOf, readsOf, extentsOf, countsOf, hitsOf, missesOf}
+use Rattle.reuse.specs.Limits.{maxExtents, slotCount}
+use Rattle.reuse_rows.specs.Rows.{padded}
+use Rattle.summary_calls.specs.declared.MissCount.the-variants.{Misses}
+use Rattle.summary_calls.specs.declared.ShareAnswer.the-variants.{Answered}
+use Rattle.summary_calls.specs.Calls.{wrote, refused, wordsCall, shareOf}
+use Rattle.session.specs.declared.Session.{Session}
+use Rattle.session_sums.specs.Sums.{filled}
+use Rattle.session_marks.specs.Marks.{marked, gatheredRow}
+use Rattle.session_marks.specs.Soundness.{Wide}
+use Rattle.session.specs.Sessions.{marks, extents, stackOf, firstRow, sound}
+use Rattle.session_summary.specs.Summaries.{sessionWords, summaryCall, missesCall, shareCall}
+use Rattle.reuse.proofs.Stack.{stack-law}
+use Rattle.reuse.proofs.Counts.{sum-split}
+use Rattle.reuse.proofs.Words.{reads-words, extents-words, counts-words, length-words}
+use Rattle.reuse.proofs.Misses.{summary-cache}
+use Rattle.reuse_rows.proofs.Padding.{padded-front}
+use Rattle.session_marks.proofs.Marks.{row-count}
+use Rattle.session_marks.proofs.Passes.{gathered-pair}
+use Rattle.session_marks.proofs.Search.{pair-of}
+use Rattle.session.proofs.Sound.{Kept, rows-of, length-first, length-stack, kept-few, root, kept-root, hist-total}
+use Rattle.session.proofs.Stands.{Stands}
+
+-- the words of a session with sound rows
+module _ (s : Session) (k : Kept s) where
+  -- H has v words
+  length-hist : length (take (extents s) (s .hist)) ≡ extents s
+  length-hist = length-take-le (extents s) (s .hist) (omega (arith, kept-few s k, k .rows .hist-wide))
+
+  -- R is as long as F
+  recent-long : length (stackOf s) ≡ length (firstRow s)
+  recent-long = length-stack s k ∙ sym (length-first s k)
+
+  -- so is H
+  hist-long : length (take (extents s) (s .hist)) ≡ length (firstRow s)
+  hist-long = length-hist ∙ sym (length-first s k)
+
+  -- their number is 2 + 3v
+  pub length-session : length (sessionWords s) ≡ 2 + 3 * extents s
+  unfolding sessionWords
+  length-session = length-words (s .reads) (firstRow s) (stackOf s) (take (extents s) (s .hist)) recent-long hist-long ∙ rw (length-first s k)
+
+  -- L of them
+  pub reads-session : readsOf (sessionWords s) ≡ s .reads
+  unfolding sessionWords
+  reads-session = reads-words (s .reads) (firstRow s) (stackOf s) (take (extents s) (s .hist))
+
+  -- v of them
+  pub extents-session : extentsOf (sessionWords s) ≡ extents s
+  unfolding sessionWords
+  extents-session = extents-words (s .reads) (firstRow s) (stackOf s) (take (extents s) (s .hist)) ∙ length-first s k
+
+  -- H of them
+  pub counts-session : countsOf (sessionWords s) ≡ take (extents s) (s .hist)
+  unfolding sessionWords
+  counts-session = counts-words (s .reads) (firstRow s) (stackOf s) (take (extents s) (s .hist)) recent-long hist-long
+
+  -- the hits at a size of at most v
+  pub hits-small : (c : ℕ) → c ≤ extents s → sum (take c (s .hist)) ≡ hitsOf (sessionWords s) c
+  unfolding hitsOf
+  hits-small c h = rw (counts-session, take-take c (extents s) (s .hist) h)
+
+  -- the hits at a size of v and more
+  pub hits-large : (c : ℕ) → extents s ≤ c → sum (take (extents s) (s .hist)) ≡ hitsOf (sessionWords s) c
+  unfolding hitsOf
+  hits-large c h = rw (counts-session, take-all c (take (extents s) (s .hist)) (omega (arith, length-hist)))
+
+  -- the hits and the misses make up the reads
+  pub hits-reads : (c : ℕ) → hitsOf (sessionWords s) c + missesOf (sessionWords s) c ≡ s .reads
+  unfolding hitsOf missesOf
+  hits-reads c = rw (extents-session, counts-session) (omega (arith, sum-split c (take (extents s) (s .hist)), hist-total s k))
+
+-- a session that has read t has the summary of t
+pub session-summary : (s : Session) (t : List ℕ) → Stands s t → sessionWords s ≡ summaryOf t
+unfolding sessionWords summaryOf
+session-summary s t g =
+    ap (λ (n : ℕ). words n (firstRow s) (stackOf s) (take (extents s) (s .hist))) (g .counted)
+    ∙ rw (g .first-known, g .stacked, stack-law t, g .hist-known)
+
+-- it is written out
+pub summary-trace : (s : Session) (t buffer : List ℕ) → Stands s t → summaryCall s buffer ≡ wrote (summaryOf t) buffer
+unfolding summaryCall
+summary-trace s t buffer g = simp (g .is-sound, session-summary s t g)
+
+-- its misses are those of the trace's summary
+pub misses-trace : (s : Session) (t : List ℕ) (c : ℕ) → Stands s t → missesCall s c ≡ Misses (missesOf (summaryOf t) c)
+unfolding missesCall
+misses-trace s t c g = simp (g .is-sound, session-summary s t g)
+
+-- so they are those of the cache that reads the trace
+pub misses-cache : (s : Session) (t : List ℕ) (c : ℕ) → Stands s t → missesCall s c ≡ Misses (cacheMisses c t)
+misses-cache s t c g = misses-trace s t c g ∙ ap Misses (summary-cache c t)
+
+-- its share is that of the trace's summary
+pub share-trace : (s : Session) (t : List ℕ) (c : ℕ) → Stands s t → shareCall s c ≡ Answered (shareOf (hitsOf (summaryOf t) c) (readsOf (summaryOf t)))
+unfolding shareCall
+share-trace s t c g = simp (g .is-sound, session-summary s t g)
+
+-- a session that is not sound
+pub unsound-way : (s : Session) (o : List ℕ) → sound s ≡ false → summaryCall s o ≡ refused 7 o
+unfolding summaryCall
+unsound-way s o e = rw e
+
+module _ (s : Session) (w : Wide (s .first) (s .hist) (s .slots) (s .sums)) (ok : sound s ≡ true) where
+  -- the rows of s
+  rows : Kept s
+  rows = rows-of s w ok
+
+  -- v is at most 256
+  pub root-few : root s ≤ maxExtents
+  root-few = omega (arith, kept-root s rows, kept-few s rows)
+
+  -- R is the marked slots turned round
+  pub laid-recent : (m r : List ℕ) → m ≡ gatheredRow (s .slots) (s .sums) → r ≡ padded (reverse (take (root s) m)) → take (root s) r ≡ stackOf s
+  unfolding stackOf filled
+  laid-recent m r e f =
+      let kept = marked (marks s) (s .slots) in
+      let row : m ≡ filled slotCount kept = e ∙ unfold marks in gathered-pair (s .slots) (s .sums) (pair-of (s .slots) (s .sums) (w .slots-wide) (w .sums-wide)) in
+      let many : length kept ≡ root s = unfold extents in row-count (rows .rows .row) ∙ sym (kept-root s rows) in
+      let front : take (root s) m ≡ kept = ap (take (root s)) row ∙ take-at kept (replicate (slotCount - length kept) 0) (root s) many in
+      let size : length (reverse kept) ≡ root s = length-reverse kept ∙ many in
+      ap (take (root s)) (f ∙ ap (λ (l : List ℕ). padded (reverse l)) front)
+      ∙ ap (λ (k : ℕ). take k (padded (reverse kept))) (sym size)
+      ∙ padded-front (reverse kept) (omega (arith, root-few))
+
+  -- the words written from L, F, R and H
+  pub words-way : (o m r : List ℕ) → m ≡ gatheredRow (s .slots) (s .sums) → r ≡ padded (reverse (take (root s) m))
+      → wordsCall (s .reads) (take (root s) (s .first)) (take (root s) r) (take (root s) (s .hist)) o ≡ summaryCall s o
+  unfolding summaryCall wordsCall sessionWords
+  words-way o m r e f =
+      let first : take (root s) (s .first) ≡ firstRow s = unfold firstRow in ap (λ (k : ℕ). take k (s .first)) (kept-root s rows) in
+      rw (ok, laid-recent m r e f, first, kept-root s rows, le-leb (length (firstRow s)) maxExtents (omega (arith, length-first s rows, kept-few s rows)))

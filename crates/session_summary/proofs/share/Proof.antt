@@ -1,0 +1,44 @@
+-- `session_summary::share` meets its contract.
+use mathlib.Core.Path.{_≡_, sym, _∙_}
+use mathlib.Core.Bool.{true}
+use borrow.Author.Tests.{not-true, not-false}
+use Rattle.session_marks.specs.Soundness.{Wide}
+use Rattle.session.specs.Sessions.{sound}
+use Rattle.session_summary.specs.Summaries.{shareCall}
+use Rattle.session.proofs.Sound.{rows-of}
+use Rattle.session_summary.proofs.Summaries.{reads-session}
+use borrow.Author.Needs.{needs}
+use Rattle.session_summary.proofs.share.Statement.{statement}
+use Rattle.session_summary.proofs.share.Tie as tie
+
+-- the widths of the session's arrays
+wide : (c : tie.Start) → Wide (c .args .s .first) (c .args .s .hist) (c .args .s .slots) (c .args .s .sums)
+wide c = search needs
+
+-- the session is sound
+ok : (c : tie.Else1) → sound (c .before .before .args .s) ≡ true
+ok c = sym (c .before .sound .ensures) ∙ not-false _ (c .if1 .left)
+
+sound-requires : tie.Need-sound-requires
+sound-requires c κs = search needs
+
+returns : tie.Need-returns
+unfolding shareCall
+returns c = sym (simp (sym (c .before .sound .ensures) ∙ not-true _ (c .if1 .taken)))
+
+hits-requires : tie.Need-hits-requires
+hits-requires c κs = ok c
+
+share-of-requires : tie.Need-share-of-requires
+share-of-requires c κs = search needs
+
+returns-2 : tie.Need-returns-2
+unfolding shareCall
+returns-2 c = 
+    let z = c .before .before .before .before in
+    let o = ok (c .before .before) in
+    let s = z .args .s in
+    sym (simp (o, reads-session s (rows-of s (wide z) o)) (cc (c .share-of .ensures, c .before .hits .ensures)))
+
+pub share-spec : {M : Type 1} → statement M
+share-spec = tie.close (tie.spec sound-requires returns hits-requires share-of-requires returns-2)

@@ -1,0 +1,65 @@
+// A session's summary written out, its misses and its hit share.
+ghost use mathlib.Core.Path.{_≡_};
+ghost use mathlib.Core.Bool.{true};
+ghost use Rattle.reuse.specs.Summary.{hitsOf};
+ghost use Rattle.session.specs.Sessions.{sound};
+ghost use Rattle.session_summary.specs.Summaries.{sessionWords, summaryCall, missesCall, shareCall};
+use session::Session;
+use summary_calls::MissCount;
+use summary_calls::ShareAnswer;
+use summary_calls::Written;
+
+// The place of the sum over all marks.
+const ROOT: usize = reuse::SUMS - 1;
+
+// The summary's words at the front of the lent buffer, or the refusal.
+pub fn summary(s: Session, out: &mut [u32]) -> Written
+    ensures { λ r. ⌜ (r ≡ summaryCall s (now (out .entry)) .answer) × (now (out .exit) ≡ summaryCall s (now (out .entry)) .buffer) ⌝ }
+{
+    if !s.sound() {
+        return Written::Refused(7);
+    }
+    let v = s.sums[ROOT] as usize;
+    let marked = session_marks::gather(&s.slots, &s.sums);
+    let recent = reuse_rows::turned(&marked[..v]);
+    let first = s.first;
+    let hist = s.hist;
+    summary_words::write(s.reads, &first[..v], &recent[..v], &hist[..v], out)
+}
+
+// The reads of a distance of at most `size`.
+fn hits(s: Session, size: u32) -> u32
+    requires { ⌜ sound s ≡ true ⌝ }
+    ensures { λ r. ⌜ r ≡ hitsOf (sessionWords s) size ⌝ }
+{
+    let v = s.sums[ROOT] as usize;
+    let mut n = size as usize;
+    if v < n {
+        n = v;
+    }
+    let hist = s.hist;
+    reuse_rows::total(&hist[..n]) as u32
+}
+
+// The misses of a cache of this size, or the refusal.
+pub fn misses(s: Session, size: u32) -> MissCount
+    ensures { λ r. ⌜ r ≡ missesCall s size ⌝ }
+{
+    if !s.sound() {
+        return MissCount::Refused(7);
+    }
+    let reads = s.reads;
+    MissCount::Misses(reads - hits(s, size))
+}
+
+// The share of hits of a cache of this size, or the refusal.
+pub fn share(s: Session, size: u32) -> ShareAnswer
+    ensures { λ r. ⌜ r ≡ shareCall s size ⌝ }
+{
+    if !s.sound() {
+        return ShareAnswer::Refused(7);
+    }
+    let reads = s.reads;
+    let hit = hits(s, size);
+    ShareAnswer::Answered(summary_counts::share_of(hit, reads))
+}

@@ -1,0 +1,87 @@
+-- `session_sums::above` meets its contract. The invariant is `Up`, where the way up from the leaf has come.
+use mathlib.Core.Path.{_≡_, refl, sym, _∙_}
+use mathlib.Core.Logic.{⊎-elim}
+use mathlib.Core.List.{map}
+use Prim.Native.Nat.{_+_, _-_}
+use native.Mathlib.Omega.{arith}
+use lib.ListN.{length, getD}
+use Rattle.reuse.specs.Lists.{sum}
+use Rattle.session_sums.specs.Sums.{neighbours}
+use Rattle.session_sums.proofs.Tree.{full}
+use Rattle.session_sums.proofs.Walks.{walked-other, walked-past, walked-some, neighbours-few, Up, up-start, up-turn, up-end}
+use Rattle.session_sums.proofs.above.Statement.{statement}
+use Rattle.session_sums.proofs.above.Tie as tie
+
+abbrev Inv-loop : tie.InvT-loop
+Inv-loop sums s total₀ count₀ p₀ total count p = Up 512 sums (sum (map (λ k. getD sums k 0) (neighbours 512 9 s))) (length (neighbours 512 9 s)) p total count
+
+abbrev μ-loop : tie.MeasureT-loop
+μ-loop sums s total₀ count₀ p₀ total count p = 1022 - p
+
+returns : tie.Need-returns Inv-loop μ-loop
+returns c = sym (walked-other _ _ (c .if1 .taken))
+
+returns-2 : tie.Need-returns-2 Inv-loop μ-loop
+returns-2 c = sym (walked-past _ _ (c .if2 .taken))
+
+loop-holds : tie.Need-loop-holds Inv-loop μ-loop
+loop-holds c = up-start 9 512 _ _ full (omega arith)
+
+add-total : tie.Need-add-total Inv-loop μ-loop
+add-total c = omega arith
+
+mul-total : tie.Need-mul-total Inv-loop μ-loop
+mul-total c = omega arith
+
+shared-slice-read-total : tie.Need-shared-slice-read-total Inv-loop μ-loop
+shared-slice-read-total c = omega arith
+
+cast-total : tie.Need-cast-total Inv-loop μ-loop
+cast-total c = omega (arith, c .shared-slice-known .given (c .before .before .before .loop .p + 1))
+
+add-total-2 : tie.Need-add-total-2 Inv-loop μ-loop
+add-total-2 c =
+    let l = c .before .before .before .loop in
+    omega (arith, c .shared-slice-known .given (l .p + 1), l .inv .small, l .inv .noughts, neighbours-few 512 9 (c .before .before .before .before .before .before .args .s))
+
+add-count : tie.Need-add-count Inv-loop μ-loop
+add-count c =
+    let l = c .before .before .before .loop in
+    omega (arith, l .inv .noughts, neighbours-few 512 9 (c .before .before .before .before .before .before .args .s))
+
+add-p : tie.Need-add-p Inv-loop μ-loop
+add-p c = omega arith
+
+loop-less : tie.Need-loop-less Inv-loop μ-loop
+loop-less c = omega arith
+
+loop-again : tie.Need-loop-again Inv-loop μ-loop
+loop-again c =
+    let l = c .before .before .loop in
+    let t = up-turn _ _ _ _ _ _ _ (l .inv) (omega arith) in
+    ⊎-elim (λ w. rw (w .2, w .3) (t .0 (w .0 .taken) (w .1 .given (l .p + 1) .fits))) (λ w. rw (w .1, w .2) (t .1 (w .0 .left))) (c .if3 .came)
+
+returns-3 : tie.Need-returns-3 Inv-loop μ-loop
+returns-3 c =
+    let e = up-end _ _ _ _ _ _ _ (c .before .loop .inv) (omega arith) in
+    rw (e .0, e .1) (sym (walked-some _ _ (c .before .before .before .if1 .left) (c .before .before .if2 .left)))
+
+pub above-spec : {M : Type 1} → statement M
+above-spec =
+    tie.close
+    (tie.spec
+    Inv-loop
+    μ-loop
+    returns
+    returns-2
+    loop-holds
+    add-total
+    mul-total
+    shared-slice-read-total
+    cast-total
+    add-total-2
+    add-count
+    add-p
+    loop-less
+    loop-again
+    returns-3)
