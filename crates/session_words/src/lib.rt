@@ -113,5 +113,5 @@ pub fn summary(words: &[u32], out: &mut [u32]) -> Written
         return Written::Refused(7);
     }
     let s = session_in(words);
-    s.summary(out)
+    session_summary::summary(s, out)
 }

@@ -38,7 +38,7 @@ pub fn after(w: Watch, answer: Answer) -> Watch {
 pub fn summarize(session: Session, out: &mut [u32]) -> usize
     ensures { λ r. ⌜ r ≤ length (now (out .exit)) ⌝ }
 {
-    let answer = session.summary(out);
+    let answer = session_summary::summary(session, out);
     match answer {
         Written::Words(n) => {
             if n <= out.len() {
@@ -52,12 +52,12 @@ pub fn summarize(session: Session, out: &mut [u32]) -> usize
 
 // The misses of a session.
 pub fn misses_of(session: Session, size: u32) -> MissCount {
-    session.misses(size)
+    session_summary::misses(session, size)
 }
 
 // The hit share of a session.
 pub fn share_of(session: Session, size: u32) -> ShareAnswer {
-    session.share(size)
+    session_summary::share(session, size)
 }
 
 // Whether so many misses were answered.
