@@ -64,7 +64,7 @@ total-requires : tie.Need-total-requires
 total-requires c κs = search needs
 
 cast-result : tie.Need-cast-result
-cast-result c = 
+cast-result c =
     let z = c .before .before .before .before .before in
     omega (arith, hit c, hits-reads (z .args .t1) (kept z) (z .args .size), true-sound (z .args .t1) (wide z) (z .pre) .short)
 

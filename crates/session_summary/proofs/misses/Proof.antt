@@ -33,13 +33,13 @@ hits-requires : tie.Need-hits-requires
 hits-requires c κs = ok c
 
 sub-t7 : tie.Need-sub-t7
-sub-t7 c = 
+sub-t7 c =
     let z = c .before .before .before in
     omega (arith, c .hits .ensures, hits-reads (z .args .s) (rows-of (z .args .s) (wide z) (ok (c .before))) (z .args .size))
 
 returns-2 : tie.Need-returns-2
 unfolding missesCall
-returns-2 c = 
+returns-2 c =
     let z = c .before .before .before in
     let s = z .args .s in
     let n : missesOf (sessionWords s) (z .args .size) ≡ s .reads - c .hits .result = omega (arith, c .hits .ensures, hits-reads s (rows-of s (wide z) (ok (c .before))) (z .args .size)) in

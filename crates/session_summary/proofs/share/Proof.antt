@@ -34,7 +34,7 @@ share-of-requires c κs = search needs
 
 returns-2 : tie.Need-returns-2
 unfolding shareCall
-returns-2 c = 
+returns-2 c =
     let z = c .before .before .before .before in
     let o = ok (c .before .before) in
     let s = z .args .s in

@@ -45,7 +45,7 @@ sound-requires : tie.Need-sound-requires
 sound-requires c κs = search needs
 
 returns : tie.Need-returns
-returns c = 
+returns c =
     let z = c .before .before .before in
     let e = unsound-way (z .args .t1) (z .args .out .now) (sym (c .before .sound .ensures) ∙ not-true _ (c .if1 .taken)) in
     (sym (ap (λ (q : Wrote). q .answer) e), sym (ap (λ (q : Wrote). q .buffer) e))
@@ -63,7 +63,7 @@ array-share-prefix-marked : tie.Need-array-share-prefix-marked
 array-share-prefix-marked c = omega (arith, few (tested (c)))
 
 slice-aggregate-turned : tie.Need-slice-aggregate-turned
-slice-aggregate-turned c = 
+slice-aggregate-turned c =
     let n : length (c .before .gather .result) ≡ 512 = search needs in
     sym (length-take-le _ _ (omega (arith, few (tested (c .before)))))
 
@@ -80,7 +80,7 @@ array-share-prefix-recent : tie.Need-array-share-prefix-recent
 array-share-prefix-recent c = omega (arith, few (tested (c .before .before .before .before .before)))
 
 slice-aggregate-write-2 : tie.Need-slice-aggregate-write-2
-slice-aggregate-write-2 c = 
+slice-aggregate-write-2 c =
     let n : length (c .before .before .before .before .turned .result) ≡ 256 = search needs in
     sym (length-take-le _ _ (omega (arith, few (tested (c .before .before .before .before .before .before)))))
 
@@ -97,7 +97,7 @@ same-length : tie.Need-same-length
 same-length c = search needs
 
 returns-2 : tie.Need-returns-2
-returns-2 c = 
+returns-2 c =
     let w = c .before .before in
     let t = w .before .before .before .before .before .before .before in
     let g = t .before .before in
