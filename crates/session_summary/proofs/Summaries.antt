@@ -12,9 +12,10 @@ use Rattle.reuse.specs.Cache.{cacheMisses}
 use Rattle.reuse.specs.Summary.{words, summaryOf, readsOf, extentsOf, countsOf, hitsOf, missesOf}
 use Rattle.reuse.specs.Limits.{maxExtents, slotCount}
 use Rattle.reuse_rows.specs.Rows.{padded}
+use Rattle.summary_calls.specs.declared.Written.{Written}
 use Rattle.summary_calls.specs.declared.MissCount.the-variants.{Misses}
 use Rattle.summary_calls.specs.declared.ShareAnswer.the-variants.{Answered}
-use Rattle.summary_calls.specs.Calls.{wrote, refused, wordsCall, shareOf}
+use Rattle.summary_calls.specs.Calls.{Wrote, wrote, refused, wordsCall, shareOf}
 use Rattle.session.specs.declared.Session.{Session}
 use Rattle.session_sums.specs.Sums.{filled}
 use Rattle.session_marks.specs.Marks.{marked, gatheredRow}
@@ -122,7 +123,7 @@ module _ (s : Session) (w : Wide (s .first) (s .hist) (s .slots) (s .sums)) (ok 
   root-few = omega (arith, kept-root s rows, kept-few s rows)
 
   -- R is the marked slots turned round
-  pub laid-recent : (m r : List ℕ) → m ≡ gatheredRow (s .slots) (s .sums) → r ≡ padded (reverse (take (root s) m)) → take (root s) r ≡ stackOf s
+  laid-recent : (m r : List ℕ) → m ≡ gatheredRow (s .slots) (s .sums) → r ≡ padded (reverse (take (root s) m)) → take (root s) r ≡ stackOf s
   unfolding stackOf filled
   laid-recent m r e f =
       let kept = marked (marks s) (s .slots) in
@@ -135,9 +136,18 @@ module _ (s : Session) (w : Wide (s .first) (s .hist) (s .slots) (s .sums)) (ok 
       ∙ padded-front (reverse kept) (omega (arith, root-few))
 
   -- the words written from L, F, R and H
-  pub words-way : (o m r : List ℕ) → m ≡ gatheredRow (s .slots) (s .sums) → r ≡ padded (reverse (take (root s) m))
+  words-way : (o m r : List ℕ) → m ≡ gatheredRow (s .slots) (s .sums) → r ≡ padded (reverse (take (root s) m))
       → wordsCall (s .reads) (take (root s) (s .first)) (take (root s) r) (take (root s) (s .hist)) o ≡ summaryCall s o
   unfolding summaryCall wordsCall sessionWords
   words-way o m r e f =
       let first : take (root s) (s .first) ≡ firstRow s = unfold firstRow in ap (λ (k : ℕ). take k (s .first)) (kept-root s rows) in
       rw (ok, laid-recent m r e f, first, kept-root s rows, le-leb (length (firstRow s)) maxExtents (omega (arith, length-first s rows, kept-few s rows)))
+
+  -- what is answered, and the buffer after it
+  pub words-given : (o m r : List ℕ) (a : Written) (b : List ℕ) → m ≡ gatheredRow (s .slots) (s .sums) → r ≡ padded (reverse (take (root s) m))
+      → let w = wordsCall (s .reads) (take (root s) (s .first)) (take (root s) r) (take (root s) (s .hist)) o in (a ≡ w .answer) × (b ≡ w .buffer)
+      → (a ≡ summaryCall s o .answer) × (b ≡ summaryCall s o .buffer)
+  words-given o m r a b e f g = (
+    g .0 ∙ ap (λ (q : Wrote). q .answer) (words-way o m r e f),
+    g .1 ∙ ap (λ (q : Wrote). q .buffer) (words-way o m r e f),
+  )

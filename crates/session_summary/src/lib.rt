@@ -23,8 +23,8 @@ pub fn summary(s: Session, out: &mut [u32]) -> Written
     let marked = session_marks::gather(&s.slots, &s.sums);
     let recent = reuse_rows::turned(&marked[..v]);
     let first = s.first;
-    let hist = s.hist;
-    summary_words::write(s.reads, &first[..v], &recent[..v], &hist[..v], out)
+    let counts = s.hist;
+    summary_words::write(s.reads, &first[..v], &recent[..v], &counts[..v], out)
 }
 
 // The reads of a distance of at most `size`.

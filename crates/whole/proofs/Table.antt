@@ -11,9 +11,12 @@ use Rattle.summary_calls.specs.declared.HitShare.the-variants.{NoReads}
 use Rattle.summary_calls.specs.declared.ShareAnswer.the-variants.{Answered}
 use Rattle.summary_calls.specs.Calls.{wrote, joinCall, missesCall, shareOf, shareCall}
 use Rattle.session.specs.declared.Answer.the-variants.{Cold, Distance}
-use Rattle.session_sums.specs.Sums.{pairs, sumsOf, zeros}
-use Rattle.session.specs.Sessions.{fresh, marks, extents, marked, stackOf, firstRow, tidy, blank, same, sound}
-use Rattle.session.specs.Reads.{gathered, roomed, slotFrom, slotOf, moved, entered, taken, tooMany, readOf, sumsRead}
+use Rattle.reuse_rows.specs.Rows.{blank}
+use Rattle.session_sums.specs.Sums.{pairs, sumsOf, zeros, same}
+use Rattle.session_marks.specs.Marks.{marked, tidy, slotFrom}
+use Rattle.session_marks.specs.Soundness.{soundRows}
+use Rattle.session.specs.Sessions.{fresh, marks, extents, stackOf, firstRow, sound}
+use Rattle.session.specs.Reads.{gathered, roomed, slotOf, moved, entered, taken, tooMany, readOf, sumsRead}
 use Rattle.session_summary.specs.Summaries.{sessionWords, summaryCall}
 use Rattle.whole.specs.Runs.{sessionAfter, answersOf, handed, outcome, Grouping, part, joined, grouped}
 
@@ -51,5 +54,5 @@ pub table : (answersOf fresh seven ≡ Cold ∷ Cold ∷ Distance 2 9 ∷ Cold �
     × (missesCall sevenWords 9 ≡ Misses 3)
     × (grouped (joined (part (1 ∷ 2 ∷ []) room) (part (2 ∷ 1 ∷ []) room) room) ≡ handed (4 ∷ 2 ∷ 1 ∷ 2 ∷ 1 ∷ 2 ∷ 1 ∷ 1 ∷ []))
     × ((c : ℕ) → shareCall (0 ∷ 0 ∷ []) c ≡ Answered NoReads)
-unfolding answersOf sessionAfter grouped summaryCall sessionWords wrote joinCall missesCall shareCall shareOf wellFormed words joinOf joinedFirst joinedRecent joinedCounts joinedCount countFor shared across missesOf readsOf extentsOf firstOf recentOf countsOf mem allIn distinct remove inside outside before firsts from sum count readOf sound extents firstRow same blank marks sumsOf pairs tidy stackOf marked roomed gathered slotOf slotFrom taken tooMany depth moved entered zeros
+unfolding answersOf sessionAfter grouped summaryCall sessionWords wrote joinCall missesCall shareCall shareOf wellFormed words joinOf joinedFirst joinedRecent joinedCounts joinedCount countFor shared across missesOf readsOf extentsOf firstOf recentOf countsOf mem allIn distinct remove inside outside before firsts from sum count readOf sound soundRows extents firstRow same blank marks sumsOf pairs tidy stackOf marked roomed gathered slotOf slotFrom taken tooMany depth moved entered zeros
 table = (refl, refl, refl, refl, refl, refl, refl, refl, refl, refl, refl, λ c. refl)

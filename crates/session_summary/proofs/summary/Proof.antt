@@ -12,7 +12,7 @@ use Rattle.session_marks.specs.Soundness.{Wide}
 use Rattle.session.specs.declared.Session.{Session}
 use Rattle.session.specs.Sessions.{sound}
 use Rattle.session.proofs.Sound.{root}
-use Rattle.session_summary.proofs.Summaries.{unsound-way, root-few, words-way}
+use Rattle.session_summary.proofs.Summaries.{unsound-way, root-few, words-given}
 use borrow.Author.Needs.{needs}
 use Rattle.session_summary.proofs.summary.Statement.{statement}
 use Rattle.session_summary.proofs.summary.Tie as tie
@@ -84,8 +84,8 @@ slice-aggregate-write-2 c =
     let n : length (c .before .before .before .before .turned .result) ≡ 256 = search needs in
     sym (length-take-le _ _ (omega (arith, few (tested (c .before .before .before .before .before .before)))))
 
-array-share-prefix-hist : tie.Need-array-share-prefix-hist
-array-share-prefix-hist c = omega (arith, few (tested (c .before .before .before .before .before .before)), wide (start (tested (c .before .before .before .before .before .before))) .hist-wide)
+array-share-prefix-counts : tie.Need-array-share-prefix-counts
+array-share-prefix-counts c = omega (arith, few (tested (c .before .before .before .before .before .before)), wide (start (tested (c .before .before .before .before .before .before))) .hist-wide)
 
 slice-aggregate-write-3 : tie.Need-slice-aggregate-write-3
 slice-aggregate-write-3 c = sym (length-take-le _ _ (omega (arith, few (tested (c .before .before .before .before .before .before .before)), wide (start (tested (c .before .before .before .before .before .before .before))) .hist-wide)))
@@ -102,8 +102,7 @@ returns-2 c =
     let t = w .before .before .before .before .before .before .before in
     let g = t .before .before in
     let z = tested g in
-    let e = words-way (given z) (wide (start z)) (ok z) (start z .args .out .now) (g .gather .result) (t .turned .result) (g .gather .ensures) (t .turned .ensures) in
-    (w .write .ensures .0 ∙ ap (λ (q : Wrote). q .answer) e, w .write .ensures .1 ∙ ap (λ (q : Wrote). q .buffer) e)
+    words-given (given z) (wide (start z)) (ok z) (start z .args .out .now) (g .gather .result) (t .turned .result) _ _ (g .gather .ensures) (t .turned .ensures) (w .write .ensures)
 
 pub summary-spec : {M : Type 1} → statement M
 summary-spec =
@@ -121,7 +120,7 @@ summary-spec =
     slice-aggregate-write
     array-share-prefix-recent
     slice-aggregate-write-2
-    array-share-prefix-hist
+    array-share-prefix-counts
     slice-aggregate-write-3
     write-requires
     same-length
