@@ -1,12 +1,15 @@
 -- A piece taken line by line: what each turn leaves to do is what was left before it.
-use mathlib.Core.Path.{_≡_, refl, sym, ap, _∙_}
+use mathlib.Core.Path.{_≡_, refl, sym, ap, subst, _∙_}
 use Prim.Native.Nat.{ℕ, suc, _+_, _-_, _≤_, _<_}
 use native.Mathlib.Omega.{arith}
 use mathlib.Core.List.{List, [], _∷_, _++_}
 use mathlib.Core.Bool.{true, false}
+use lib.Dec.{ltb, leb}
 use lib.ListN.{length, take, drop, getD, length-drop, take-append-drop}
 use lib.Seq.{length-take-le, take-all, take-suc, split-at, drop-drop}
+use borrow.Author.Tests.{ltb-true, ltb-false, leb-true, leb-false}
 use Rattle.reuse_rows.specs.Rows.{placed}
+use Rattle.reuse.proofs.Lists.{by-test}
 use Rattle.texts.specs.Lines.{Answer, to, no, at, stopped, lineCount}
 use Rattle.texts.specs.Logs.{longestLine}
 use Rattle.texts.proofs.Tests.{never}
@@ -17,13 +20,13 @@ use Rattle.listing_texts.specs.Tallies.{Tally}
 use Rattle.listing_texts.specs.Feeding.{Taken, empty, inside, whole, State, takePiece, stateBy, unnumbered}
 use Rattle.listing_texts.proofs.Unnumbered.{take-none, stay, kept, ended, too-long}
 use Rattle.listing_tally.specs.Rows.{Tallied, tallyIn, takenBy, takenIn, andThen}
-use Rattle.listing_tally.specs.Standings.{standsAt, endTaken}
+use Rattle.listing_tally.specs.Standings.{Standing, standsAt, stop, endTaken}
 use Rattle.listing_tally.specs.declared.Phase.{Phase}
 use Rattle.listing_tally.specs.declared.Phase.the-variants.{Empty, Inside, Whole, Stopped}
 use Rattle.listing_tally.specs.declared.Progress.{Progress}
 use Rattle.listing_tally.proofs.Answers.{rest-put}
 use Rattle.listing_tally.proofs.Phases.{end-law}
-use Rattle.listing.specs.Listers.{stateIn, isStopped, Turnable, Turned}
+use Rattle.listing.specs.Listers.{stateIn, isStopped, Turnable, Turned, turnAfter}
 
 -- a text that is not refused is somewhere
 going : (phase : Phase) (t : Tally) → isStopped phase ≡ false → (s : Taken) × (takenBy phase t ≡ to s)
@@ -70,7 +73,7 @@ module _ (bytes : List ℕ) (pos : ℕ) (line : List ℕ) (held : ℕ) (phase : 
   left-long = length-drop pos bytes
 
   -- the line is too long
-  pub turn-long : longestLine < held + n → Turned bytes pos before (record { at = length bytes; line = line; held = 0; phase = Stopped 1; reads = reads; extents = extents }) stack counts
+  turn-long : longestLine < held + n → Turned bytes pos before (record { at = length bytes; line = line; held = 0; phase = Stopped 1; reads = reads; extents = extents }) stack counts
   turn-long h =
       let l : List ℕ = drop pos bytes in
       let j : ℕ = longestLine - held in
@@ -146,7 +149,7 @@ module _ (bytes : List ℕ) (pos : ℕ) (line : List ℕ) (held : ℕ) (phase : 
           ∙ ap (λ (a : Answer Taken). unnumbered (takePiece (stateBy a []) (drop (suc (pos + n)) bytes))) (sym (line-taken .0 ∙ ap (λ (a : Answer Taken). andThen a (take held line ++ rest)) (here .1)))
 
       -- the text is refused
-      pub turn-stopped : isStopped (p .phase) ≡ true → Turned bytes pos before (record { at = length bytes; line = line; held = 0; phase = p .phase; reads = p .reads; extents = p .extents }) stack′ counts′
+      turn-stopped : isStopped (p .phase) ≡ true → Turned bytes pos before (record { at = length bytes; line = line; held = 0; phase = p .phase; reads = p .reads; extents = p .extents }) stack′ counts′
       turn-stopped z =
           let s = gone-stop (p .phase) (tallyIn (p .reads) (p .extents) stack′ counts′) z in
           let f : (l : List ℕ) → takePiece (stateBy (takenIn p stack′ counts′) []) l ≡ stopped 0 (s .0) = λ l. ap (λ (a : Answer Taken). takePiece (stateBy a []) l) (s .1) ∙ stay (s .0) l in
@@ -161,7 +164,7 @@ module _ (bytes : List ℕ) (pos : ℕ) (line : List ℕ) (held : ℕ) (phase : 
           }
 
       -- it goes on
-      pub turn-ended : isStopped (p .phase) ≡ false → Turned bytes pos before (record { at = pos + n + 1; line = line; held = 0; phase = p .phase; reads = p .reads; extents = p .extents }) stack′ counts′
+      turn-ended : isStopped (p .phase) ≡ false → Turned bytes pos before (record { at = pos + n + 1; line = line; held = 0; phase = p .phase; reads = p .reads; extents = p .extents }) stack′ counts′
       turn-ended z =
           let i : suc (pos + n) ≡ pos + n + 1 = omega arith in
           record {
@@ -173,3 +176,29 @@ module _ (bytes : List ℕ) (pos : ℕ) (line : List ℕ) (held : ℕ) (phase : 
             goes = λ y. z;
             same = line-done ∙ ap (λ (k : ℕ). unnumbered (takePiece (stateBy (takenIn p stack′ counts′) []) (drop k bytes))) i;
           }
+
+      -- either
+      turn-line : Turned bytes pos before (turnAfter line p (pos + n + 1) (length bytes)) stack′ counts′
+      turn-line = by-test (isStopped (p .phase)) (λ z. rw z (turn-stopped z)) (λ z. rw z (turn-ended z))
+
+  -- what a standing leaves to do
+  abbrev Leaves : Standing → Type 0
+  Leaves s = Turned bytes pos before (turnAfter line (s .progress) (pos + n + 1) (length bytes)) (s .stack) (s .counts)
+
+  -- the line ends in the piece, or is too long
+  pub turn-over : (rest : List ℕ) → rest ≡ take n (drop pos bytes) → (pos + n ≡ length bytes → longestLine < held + n)
+      → (p : Progress) (stack′ counts′ : List ℕ) → standsAt p stack′ counts′ ≡ endTaken reads extents stack counts phase line held rest
+      → Turned bytes pos before (turnAfter line p (pos + n + 1) (length bytes)) stack′ counts′
+  unfolding endTaken
+  turn-over rest r over p stack′ counts′ e =
+      let k : length rest ≡ n = ap length r ∙ length-take-le n (drop pos bytes) (omega (arith, counted, left-long)) in
+      by-test (leb (held + length rest) longestLine)
+      (λ z. let h : held + n ≤ longestLine = omega (arith, leb-true (held + length rest) longestLine z, k) in
+      turn-line rest r h (before-end h over) p stack′ counts′ e)
+      (λ z. let q : standsAt p stack′ counts′ ≡ standsAt (stop 1 reads extents) stack counts = e ∙ rw z in
+      subst Leaves (sym q) (turn-long (omega (arith, leb-false (held + length rest) longestLine z, k))))
+    where
+      -- a line that fits and ends in the piece
+      before-end : held + n ≤ longestLine → (pos + n ≡ length bytes → longestLine < held + n) → pos + n < length bytes
+      before-end h f = by-test (ltb (pos + n) (length bytes)) (λ z. ltb-true (pos + n) (length bytes) z)
+          (λ z. absurd (let q = f (omega (arith, ltb-false (pos + n) (length bytes) z, counted)) in omega (arith, q)))

@@ -13,6 +13,7 @@ use Rattle.listing_texts.specs.Feeding.{State, takePiece, stateBy, unnumbered}
 use Rattle.listing_tally.specs.Rows.{tallyIn, Tallied, takenBy}
 use Rattle.listing_tally.specs.declared.Phase.{Phase}
 use Rattle.listing_tally.specs.declared.Phase.the-variants.{Empty, Inside, Whole, Stopped}
+use Rattle.listing_tally.specs.declared.Progress.{Progress}
 use Rattle.listing.specs.declared.turning.Turn.{Turn}
 use Rattle.listing.specs.declared.Lister.{Lister}
 
@@ -52,6 +53,17 @@ pub record Turnable (bytes : List ℕ) (at : ℕ) (line : List ℕ) (held : ℕ)
   pub fits : held ≤ longestLine
   pub tally : Tallied reads extents stack counts
   pub goes : isStopped phase ≡ false
+
+-- the turn after a line: on to the next one, or past the whole piece where the text is refused
+abbrev pub turnAfter : List ℕ → Progress → ℕ → ℕ → Turn
+turnAfter line p next len = record {
+  at = cond (isStopped (p .phase)) len next;
+  line = line;
+  held = 0;
+  phase = p .phase;
+  reads = p .reads;
+  extents = p .extents;
+}
 
 -- it was taken further from a state: what is left of it does the same from the state reached
 pub record Turned (bytes : List ℕ) (from : ℕ) (before : State) (r : Turn) (stack counts : List ℕ) : Type 0 where

@@ -1,9 +1,10 @@
 // A piece of a log text, taken line by line.
 use listing_tally::LONGEST;
 use listing_tally::Phase;
+use listing_tally::Progress;
 ghost use mathlib.Core.Path.{_≡_};
 ghost use lib.ListN.{take};
-ghost use Rattle.listing.specs.Listers.{isStopped, stateIn, Turnable, Turned};
+ghost use Rattle.listing.specs.Listers.{isStopped, stateIn, Turnable, Turned, turnAfter};
 
 // How far a piece is taken: the position, the bytes held of a line that has not ended, and the text so far.
 pub struct Turn {
@@ -27,6 +28,25 @@ pub fn stopped(phase: Phase) -> bool
     }
 }
 
+// The turn after a line: on to the next one, or past the whole piece where the text is refused.
+fn turned(line: [u8; LONGEST], p: Progress, next: usize, len: usize) -> Turn
+    ensures { λ r. ⌜ r ≡ turnAfter line p next len ⌝ }
+{
+    let phase = p.phase;
+    let mut at = next;
+    if stopped(phase) {
+        at = len;
+    }
+    Turn {
+        at,
+        line,
+        held: 0,
+        phase,
+        reads: p.reads,
+        extents: p.extents,
+    }
+}
+
 // The piece from `at` on is taken to the end of the next line, or to its own end.
 pub fn advance(
     bytes: &[u8],
@@ -45,56 +65,21 @@ pub fn advance(
     let n = texts_pieces::line_length(bytes, at, LONGEST + 1 - held);
     let end = at + n;
     let all = held + n;
-    if LONGEST < all {
-        return Turn {
-            at: bytes.len(),
-            line,
-            held: 0,
-            phase: Phase::Stopped(1),
-            reads,
-            extents,
-        };
-    }
     if end == bytes.len() {
-        let mut kept = line;
-        reuse_rows::put_bytes(&mut kept, held, &bytes[at..end]);
-        return Turn {
-            at: end,
-            line: kept,
-            held: all,
-            phase,
-            reads,
-            extents,
-        };
+        if all <= LONGEST {
+            let mut kept = line;
+            reuse_rows::put_bytes(&mut kept, held, &bytes[at..end]);
+            return Turn {
+                at: end,
+                line: kept,
+                held: all,
+                phase,
+                reads,
+                extents,
+            };
+        }
     }
-    let p = listing_tally::end_line(
-        line,
-        held,
-        &bytes[at..end],
-        phase,
-        reads,
-        extents,
-        stack,
-        counts,
-    );
-    let then = p.phase;
-    if stopped(then) {
-        return Turn {
-            at: bytes.len(),
-            line,
-            held: 0,
-            phase: then,
-            reads: p.reads,
-            extents: p.extents,
-        };
-    }
-    let next = end + 1;
-    Turn {
-        at: next,
-        line,
-        held: 0,
-        phase: then,
-        reads: p.reads,
-        extents: p.extents,
-    }
+    let rest = &bytes[at..end];
+    let p = listing_tally::end_line(line, held, rest, phase, reads, extents, stack, counts);
+    turned(line, p, end + 1, bytes.len())
 }
