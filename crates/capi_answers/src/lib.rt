@@ -1,9 +1,9 @@
 // Answers as one signed number: what was asked for, or the negative of the refusal's number.
 use session::Answer;
-use summary::HitShare;
-use summary::MissCount;
-use summary::ShareAnswer;
-use summary::Written;
+use summary_calls::HitShare;
+use summary_calls::MissCount;
+use summary_calls::ShareAnswer;
+use summary_calls::Written;
 use watch::Outcome;
 ghost use mathlib.Core.Path.{_≡_};
 ghost use Prim.Native.Nat.{min};

@@ -1,7 +1,7 @@
 // A log text listed in memory.
 use listing::Lister;
 use listing::Verdict;
-use summary::Written;
+use summary_calls::Written;
 ghost use mathlib.Core.Path.{_≡_};
 ghost use Rattle.listing_memory.specs.Calls.{listCall};
 

@@ -1,7 +1,7 @@
 // A session kept in lent words.
 use session::Answer;
 use session::Session;
-use summary::Written;
+use summary_calls::Written;
 ghost use mathlib.Core.Path.{_≡_};
 ghost use Prim.Native.Nat.{_≤_};
 ghost use lib.ListN.{length};

@@ -1,7 +1,7 @@
 // A watch kept in lent words.
-use summary::MissCount;
-use summary::ShareAnswer;
-use summary::Written;
+use summary_calls::MissCount;
+use summary_calls::ShareAnswer;
+use summary_calls::Written;
 use watch::Outcome;
 use watch::Reading;
 use watch::Watch;
