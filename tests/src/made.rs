@@ -157,3 +157,28 @@ pub fn plan(random: &mut Random, depth: usize) -> Plan {
     }
     Plan::Join(inner)
 }
+
+/// A plan of three levels of joins of 16 parts, some of whose segs are of 10 reads, so that its text is so long.
+pub fn plan_of_length(bytes: usize) -> Plan {
+    let level = |inner: &Plan| Plan::Join(vec![inner.clone(); MAX_PARTS]);
+    let three = level(&level(&level(&Plan::Seg(0))));
+    let four = |parts: usize| Plan::Join([vec![three.clone()], vec![level(&level(&Plan::Seg(0))); parts]].concat());
+    let parts = (1..MAX_PARTS).rev().find(|parts| four(*parts).text().len() <= bytes).expect("a plan short enough");
+    let mut plan = four(parts);
+    let mut left = bytes - plan.text().len();
+    lengthen(&mut plan, &mut left);
+    assert_eq!((plan.text().len(), left), (bytes, 0));
+    plan
+}
+
+/// Makes each of the first so many segs of a plan one digit longer.
+fn lengthen(plan: &mut Plan, left: &mut usize) {
+    match plan {
+        Plan::Seg(reads) if *left > 0 => {
+            *reads = 10;
+            *left -= 1;
+        }
+        Plan::Seg(_) => {}
+        Plan::Join(parts) => parts.iter_mut().for_each(|part| lengthen(part, left)),
+    }
+}

@@ -131,6 +131,66 @@ fn parts_with_refused_reads() {
     tally.at_least(190);
 }
 
+/// Compares each answer of a list of read calls with the plain session's, and the session after them with one that was
+/// never offered the refused ones; the calls accepted.
+fn compare_calls(tally: &mut Tally, list: &[u32]) -> Vec<u32> {
+    let mut words = calls::session_new(session::WORDS).expect("a new session");
+    let mut wanted = session::new();
+    let mut accepted = Vec::new();
+    for extent in list {
+        let answer = session::read(&mut wanted, *extent);
+        tally.same(calls::session_read(&mut words, *extent), answer, extent);
+        if answer.is_ok() {
+            accepted.push(*extent);
+        }
+    }
+    let mut spared = calls::session_new(session::WORDS).expect("a new session");
+    for extent in &accepted {
+        calls::session_read(&mut spared, *extent).expect("a call that is accepted");
+    }
+    tally.same(&words, &spared, &list);
+    accepted
+}
+
+#[test]
+fn two_parts_with_refused_reads() {
+    let mut tally = Tally::new("two parts, both with refused reads");
+    let mut random = Random::new(76);
+    for _ in 0..12 {
+        let pool = made::extents(&mut random, 400);
+        let uniform = |random: &mut Random| (0..900).map(|_| random.of(&pool)).collect::<Vec<u32>>();
+        let one = compare_calls(&mut tally, &uniform(&mut random));
+        let again = [random.shuffled(&trace::firsts(&one)), uniform(&mut random)].concat();
+        let other = compare_calls(&mut tally, &again);
+        assert!(one.len() < 900 && other.len() < again.len(), "reads of both parts are refused");
+        let parts = [read_calls(&one).0, read_calls(&again).0];
+        tally.same(&parts[1].reads, &other, &again);
+        compare(&mut tally, &mut random, &parts);
+    }
+    tally.at_least(12 * 2000);
+}
+
+#[test]
+fn halves_about_the_limit_of_extents() {
+    let mut tally = Tally::new("traces of about 256 extents in two halves");
+    let mut random = Random::new(77);
+    let mut refused = 0;
+    for _ in 0..300 {
+        let count = 300 + random.below(300);
+        let pool = made::extents(&mut random, count);
+        let reads: Vec<u32> = (0..400).map(|_| random.of(&pool)).collect();
+        let (one, other) = reads.split_at(200);
+        let [a, b] = [one, other].map(|half| calls::summarize(half, 770).expect("at most 200 extents"));
+        let wanted = summary::summarize(&reads);
+        refused += u32::from(wanted == Err(refusal::EXTENTS));
+        tally.same(calls::summarize(&reads, 770), wanted.clone(), &reads);
+        tally.same(calls::join(&a, &b, 770), wanted, &reads);
+        tally.same(calls::distances(&a, other, 200), summary::distances_after(&a, other), &reads);
+    }
+    assert!((80..=220).contains(&refused), "{refused} traces of more than 256 extents");
+    tally.at_least(900);
+}
+
 #[test]
 fn a_read_is_a_hit_where_its_distance_is_within_the_size() {
     let mut tally = Tally::new("uncut readings and caches of all sizes");

@@ -1,6 +1,6 @@
 //! Texts that may or may not be plans.
 
-use jemqolu_tests::plain::plans::{self, LEVEL_WORDS, MAX_DEPTH};
+use jemqolu_tests::plain::plans::{self, Plan, LEVEL_WORDS, MAX_BYTES, MAX_DEPTH, MAX_PARTS};
 use jemqolu_tests::random::Random;
 use jemqolu_tests::tally::Tally;
 use jemqolu_tests::{calls, made, Answer};
@@ -24,6 +24,137 @@ fn note<T>(seen: &mut Seen, answer: &Answer<T>) {
 /// A log of so many reads over few extents.
 fn log_of(reads: u64) -> Vec<u32> {
     (0..reads as u32).map(|read| read * read % 7).collect()
+}
+
+/// The bytes that come in where a text is damaged at every place.
+const BYTES: &[u8; 10] = b" ()019\njs\0";
+
+/// Compares a text on a log of as many reads as its segs have, or of three where they have too many, with what it needs
+/// lent and with nothing.
+fn compare_alone(tally: &mut Tally, seen: &mut Seen, text: &[u8]) {
+    let reads = plans::read(text).map_or(3, |plan| plan.reads());
+    let log = log_of(if reads > 60_000 { 3 } else { reads });
+    let wanted = plans::carry_out(text, &log);
+    note(seen, &wanted);
+    let (work, room) = wanted.as_ref().map_or((0, 0), |carried| (carried.cleared, carried.words.len()));
+    for (work, room) in [(work, room), (0, 0)] {
+        let got = calls::plan(text, &log, work, room);
+        tally.same(got, plans::within(&wanted, work, room), &(String::from_utf8_lossy(text), work, room));
+    }
+}
+
+/// Compares a text with the byte at a place removed, and with each of these in its place and before it.
+fn damage_at(tally: &mut Tally, seen: &mut Seen, text: &[u8], place: usize, bytes: &[u8]) {
+    let (front, back) = text.split_at(place);
+    let rest = back.get(1..).unwrap_or(&[]);
+    compare_alone(tally, seen, &[front, rest].concat());
+    for byte in bytes {
+        compare_alone(tally, seen, &[front, &[*byte], rest].concat());
+        compare_alone(tally, seen, &[front, &[*byte], back].concat());
+    }
+}
+
+/// The text of a plan of this depth with not too many lines.
+fn short_text(random: &mut Random, depth: usize) -> Vec<u8> {
+    loop {
+        let text = made::plan(random, depth).text();
+        if text.len() <= 100 + 50 * depth {
+            return text;
+        }
+    }
+}
+
+#[test]
+fn each_of_ten_bytes_at_every_place() {
+    let (mut tally, mut seen) = (Tally::new("plans with each of ten bytes at every place"), Seen::default());
+    let mut random = Random::new(124);
+    for round in 0..45 {
+        let text = short_text(&mut random, round % (MAX_DEPTH + 1));
+        for place in 0..=text.len() {
+            damage_at(&mut tally, &mut seen, &text, place, BYTES);
+        }
+    }
+    assert!(seen[0] >= 10_000 && seen[1] >= 200_000, "{seen:?}");
+    tally.at_least(400_000);
+}
+
+#[test]
+fn cut_after_every_byte() {
+    let (mut tally, mut seen) = (Tally::new("plans cut after every byte"), Seen::default());
+    let mut random = Random::new(125);
+    for round in 0..45 {
+        let text = short_text(&mut random, round % (MAX_DEPTH + 1));
+        for len in 0..=text.len() {
+            compare_alone(&mut tally, &mut seen, &text[..len]);
+        }
+    }
+    assert!(seen[0] == 45 && seen[1] >= 10_000, "{seen:?}");
+    tally.at_least(20_000);
+}
+
+#[test]
+fn each_line_removed_and_doubled() {
+    let (mut tally, mut seen) = (Tally::new("plans with a line removed or doubled"), Seen::default());
+    let mut random = Random::new(126);
+    for round in 0..90 {
+        let text = made::plan(&mut random, round % (MAX_DEPTH + 1)).text();
+        let lines: Vec<&[u8]> = text.split_inclusive(|byte| *byte == b'\n').collect();
+        for place in 0..lines.len() {
+            let (front, back) = lines.split_at(place);
+            compare_alone(&mut tally, &mut seen, &[front, &back[1..]].concat().concat());
+            compare_alone(&mut tally, &mut seen, &[front, &back[..1], back].concat().concat());
+        }
+    }
+    assert!(seen[0] >= 5000 && seen[1] >= 5000 && seen[4] >= 2000, "{seen:?}");
+    tally.at_least(25_000);
+}
+
+/// A join of so many parts under so many joins, each of which has a seg before it or after it. Its last part is a join
+/// where asked.
+fn nest(joins: usize, parts: usize, before: bool, tail: bool) -> Plan {
+    let mut inner = vec![Plan::Seg(1); parts];
+    if tail {
+        inner[parts - 1] = Plan::Join(vec![Plan::Seg(0), Plan::Seg(1)]);
+    }
+    let mut plan = Plan::Join(inner);
+    for _ in 0..joins {
+        plan = Plan::Join(if before { vec![Plan::Seg(1), plan] } else { vec![plan, Plan::Seg(1)] });
+    }
+    plan
+}
+
+#[test]
+fn damaged_at_the_limits_of_depth_and_parts() {
+    let (mut tally, mut seen) = (Tally::new("damaged plans at the limits of depth and parts"), Seen::default());
+    let mut random = Random::new(127);
+    for joins in 0..10 {
+        for parts in [2, MAX_PARTS, MAX_PARTS + 1] {
+            for (before, tail) in [(false, false), (true, false), (true, true)] {
+                let text = nest(joins, parts, before, tail).text();
+                for place in 0..=text.len() {
+                    let bytes = [random.of(BYTES), random.of(BYTES)];
+                    damage_at(&mut tally, &mut seen, &text, place, &bytes);
+                }
+            }
+        }
+    }
+    assert!(seen[0] >= 2000 && seen[1] >= 80_000 && seen[4] >= 30_000, "{seen:?}");
+    tally.at_least(240_000);
+}
+
+#[test]
+fn damaged_at_the_limit_of_bytes() {
+    let (mut tally, mut seen) = (Tally::new("damaged plans at 65,536 bytes"), Seen::default());
+    let mut random = Random::new(128);
+    for bytes in MAX_BYTES - 2..=MAX_BYTES + 2 {
+        let text = made::plan_of_length(bytes).text();
+        for _ in 0..20 {
+            let place = random.below(bytes + 1);
+            damage_at(&mut tally, &mut seen, &text, place, BYTES);
+        }
+    }
+    assert!(seen[0] >= 50 && seen[1] >= 1000 && seen[4] >= 1000, "{seen:?}");
+    tally.at_least(4000);
 }
 
 #[test]
@@ -132,13 +263,16 @@ fn lines_in_any_order() {
     tally.at_least(40_000);
 }
 
+/// Numbers about the limits of a seg, of ten digits and of machine words, and bytes that are no number of the rule.
+const NUMBERS: &str = "|0|1|2|3|00|01|10|1048575|1048576|1048577|4294967295|4294967296|4294967299|9999999999|\
+                       0000000000|0000000003|00000000003|01048577|10000000000|99999999999|18446744073709551615|\
+                       18446744073709551616|18446744073709551617|18446744073709551619|+3|-3| 3|3 |3.|3a|1e3|a|0x3|\
+                       3)|)3|(3|3 3|\u{0663}";
+
 #[test]
 fn numbers_of_segs() {
     let (mut tally, mut seen) = (Tally::new("numbers of segs"), Seen::default());
-    let numbers = "|0|1|2|3|00|01|10|1048575|1048576|1048577|4294967295|4294967296|4294967299|9999999999|0000000003|\
-                   00000000003|10000000000|99999999999|18446744073709551619|+3|-3| 3|3 |3.|3a|a|0x3|\
-                   3)|)3|(3|3 3|\u{0663}";
-    for number in numbers.split('|') {
+    for number in NUMBERS.split('|') {
         for text in [format!("(seg {number})\n"), format!("(join\n (seg {number})\n (seg 0))\n")] {
             for reads in [0, 1, 3] {
                 compare(&mut tally, &mut seen, text.as_bytes(), &log_of(reads));
@@ -146,7 +280,24 @@ fn numbers_of_segs() {
         }
     }
     assert!(seen[0] >= 4 && seen[1] >= 100 && seen[2] >= 20 && seen[3] >= 10, "{seen:?}");
-    tally.at_least(190);
+    tally.at_least(220);
+}
+
+#[test]
+fn numbers_and_brackets_in_joins_of_any_width() {
+    let (mut tally, mut seen) = (Tally::new("numbers and brackets in joins of any width"), Seen::default());
+    for number in NUMBERS.split('|') {
+        for closing in 0..6 {
+            let last = format!("(seg {number}{}\n", ")".repeat(closing));
+            compare_alone(&mut tally, &mut seen, last.as_bytes());
+            for parts in 0..MAX_PARTS + 2 {
+                let text = format!("(join\n{} {last}", " (seg 7)\n".repeat(parts));
+                compare_alone(&mut tally, &mut seen, text.as_bytes());
+            }
+        }
+    }
+    assert!(seen[0] >= 60 && seen[1] >= 3000 && seen[2] >= 100 && seen[3] >= 20 && seen[4] >= 10, "{seen:?}");
+    tally.at_least(8000);
 }
 
 #[test]

@@ -94,6 +94,41 @@ fn two_words_changed() {
     tally.at_least(60_000);
 }
 
+/// Changes words of a summary by one of four rules, most often so that it stays well formed.
+fn change(random: &mut Random, words: &mut Vec<u32>) {
+    let v = words[1] as usize;
+    let (row, one, other) = (2 + v * random.below(3), random.below(v), random.below(v));
+    match random.below(6) {
+        0 => words.truncate(words.len() - 1),
+        1 => words[row + one] = words[row + other],
+        2 => words[row + one] = random.word(),
+        _ => words.swap(row + one, row + other),
+    }
+}
+
+#[test]
+fn joined_with_what_was_damaged() {
+    let (mut tally, mut seen) = (Tally::new("damaged summaries joined with the undamaged"), Seen::default());
+    let mut random = Random::new(66);
+    for round in 0..2000 {
+        let most = [12, 60, 256][round % 3];
+        let reads = [vec![7], made::trace(&mut random, 300, most)].concat();
+        let Ok(good) = summary::summarize(&reads) else { continue };
+        let mut words = good.clone();
+        change(&mut random, &mut words);
+        compare(&mut tally, &mut seen, &words);
+        tally.same(calls::join(&words, &good, 776), summary::join(&words, &good), &(&words, &good));
+        tally.same(calls::join(&good, &words, 776), summary::join(&good, &words), &(&words, &good));
+        let after = summary::distances_after(&words, &reads);
+        tally.same(calls::distances(&words, &reads, reads.len()), after, &(&words, &reads));
+        let size = random.below(most + 2) as u32;
+        tally.same(calls::misses(&words, size), summary::misses(&words, size), &(&words, size));
+        tally.same(calls::share(&words, size), summary::share(&words, size), &(&words, size));
+    }
+    assert!(seen.formed >= 1000 && seen.refused >= 500, "{} formed, {} refused", seen.formed, seen.refused);
+    tally.at_least(19_000);
+}
+
 #[test]
 fn words_cut_off_and_added() {
     let (mut tally, mut seen) = (Tally::new("summaries cut short and made longer"), Seen::default());

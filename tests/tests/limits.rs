@@ -85,6 +85,31 @@ fn plans() {
 }
 
 #[test]
+fn plans_of_the_longest_seg() {
+    let mut tally = Tally::new("plans of the longest seg");
+    let (trace, distances) = long_trace();
+    let two = |rest: u64| Plan::Join(vec![Plan::Seg(MAX_READS), Plan::Seg(rest)]).text();
+    let words = summary::with_distances(&trace[..MOST], &distances[..MOST]);
+    for (text, cleared) in [(two(0), LEVEL_WORDS), (Plan::Seg(MAX_READS).text(), 0)] {
+        let carried = Carried { words: words.clone(), cleared };
+        tally.same(calls::plan(&text, &trace[..MOST], cleared, 770), Ok(carried), &cleared);
+        tally.same(calls::plan(&text, &trace, cleared, 770), Err(refusal::SEGS), &cleared);
+    }
+    tally.same(calls::plan(&two(1), &trace, LEVEL_WORDS, 770), Err(refusal::READS), &MOST);
+    tally.same(calls::plan(&two(1), &with_another(&trace), 0, 0), Err(refusal::READS), &MOST);
+    let parts = " (seg 0)\n".repeat(17);
+    for (text, wanted) in [
+        ("(seg 1048577)\n".to_string(), refusal::NUMBER),
+        ("(seg 1048576)".to_string(), refusal::LINE),
+        (format!("(join\n{parts} (seg 1048577))\n"), refusal::PLAN),
+        (format!("(join\n (seg 1048577)\n{parts}"), refusal::NUMBER),
+    ] {
+        tally.same(calls::plan(text.as_bytes(), &with_another(&trace), 0, 0), Err(wanted), &text);
+    }
+    tally.at_least(10);
+}
+
+#[test]
 fn log_texts() {
     let mut tally = Tally::new("long log texts");
     let (trace, _) = long_trace();
@@ -100,9 +125,12 @@ fn log_texts() {
     tally.same(then(&format!(" (read {another})\n")), Err(refusal::READS), &MOST);
     tally.same(then(" (read 4294967296)\n"), Err(refusal::NUMBER), &MOST);
     tally.same(then(" (read 4294967296)"), Err(refusal::LINE), &MOST);
+    tally.same(then(" (read 4294967296)))\n"), Err(refusal::LINE), &MOST);
+    tally.same(then(" (read 0)))\n"), Err(refusal::LINE), &MOST);
+    tally.same(then(&format!(" (read {another})\n\n")), Err(refusal::READS), &MOST);
     tally.same(then(""), Err(refusal::LINE), &MOST);
     tally.same(calls::list(&logs::text(&with_another(&trace[..MOST])), 0), Err(refusal::EXTENTS), &MOST);
-    tally.at_least(9);
+    tally.at_least(12);
 }
 
 #[test]

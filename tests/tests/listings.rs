@@ -129,6 +129,68 @@ fn numbers_of_extents() {
     tally.at_least(300);
 }
 
+/// Texts refused with 1, each with one fault, or with a second one on the same line or a later one.
+const FAULTY: [&str; 35] = [
+    "",
+    "\n",
+    "(traces\n (read 7))\n",
+    "(trace))\n",
+    " (trace)\n",
+    "(trace\r\n (read 7))\n",
+    "(trace\n (read 7)\r\n (read 3))\n",
+    "(trace\n (read 7)\n (read 3)))\n",
+    "(trace\n (read 7\n (read 3))\n",
+    "(trace\n (read 7)\n\n (read 3))\n",
+    "(trace\n(read 7)\n (read 3))\n",
+    "(trace\n (read  7))\n",
+    "(trace\n (read 7) \n (read 3))\n",
+    "(trace\n (read 7)\n)\n",
+    "(trace\n (read 07))\n",
+    "(trace\n (read ))\n",
+    "(trace\n (read -7))\n",
+    "(trace\n (read 7a))\n",
+    "(trace\n (read 7)\n (read 42949672950)\n (read 3))\n",
+    "(trace\n (read 4294967295)))\n (read 3))\n",
+    "(trace\n (read 7)\n (read 77777777777777777777777777",
+    "(tracetracetracetracetrace)\n",
+    "(trace\n (read 7)\n (rea",
+    "(trace\n (read 7)\n (read 3))",
+    "(trace\n (read 7)\n (read 3)\n",
+    "(trace\n",
+    "(trace)",
+    "(trace\n (read 7))\nxy",
+    "(trace\n (read 7))\n\n",
+    "(trace\n (read 7))\n (read 3))\n",
+    "(trace)\n (read 7))\n",
+    "(trace\n\n (read 5000000000))\n",
+    "(trace\n (read 5000000000)))\n",
+    "(trace\n (read 5000000000)",
+    "(trace\n (read 42949672950)))\n (read 3))\n",
+];
+
+/// Texts refused with 2, some with a fault on a later line.
+const ABOVE: [&str; 6] = [
+    "(trace\n (read 4294967296))\n",
+    "(trace\n (read 7)\n (read 9999999999)\n (read 3))\n",
+    "(trace\n (read 5000000000)\n\n (read 3))\n",
+    "(trace\n (read 5000000000)\n (read 77777777777777777777\n",
+    "(trace\n (read 5000000000)\n (read 77777777777777777777",
+    "(trace\n (read 5000000000)\n (re",
+];
+
+#[test]
+fn texts_with_one_fault_or_two() {
+    let mut tally = Tally::new("log texts with one fault or two");
+    let faulty = FAULTY.iter().map(|text| (text, refusal::LINE));
+    for (text, number) in faulty.chain(ABOVE.iter().map(|text| (text, refusal::NUMBER))) {
+        tally.same(logs::list(text.as_bytes()), Err(number), text);
+        for room in [0, 8192] {
+            tally.same(calls::list(text.as_bytes(), room), Err(number), text);
+        }
+    }
+    tally.at_least(120);
+}
+
 #[test]
 fn every_length_and_every_number_of_extents() {
     let mut tally = Tally::new("listings of every length");
@@ -162,7 +224,9 @@ fn at_the_limit_of_extents() {
     }
     assert_eq!((seen[0], seen[1], seen[9]), (12, 12, 24));
     let full: String = (0..256).map(|extent| format!(" (read {extent})\n")).collect();
-    for (line, number) in [("(read 256)\n", 9), ("(read 256))\n", 9), ("(read 4294967296)\n", 2), ("(read 0256)\n", 1)]
+    for (line, number) in [("(read 256)\n", 9), ("(read 256))\n", 9), ("(read 256)\n\n", 9), ("(read 256)", 1)]
+        .into_iter()
+        .chain([("(read 4294967296)\n", 2), ("(read 0256)\n", 1), ("(read 256)))\n", 1), ("(read 5000000000))\n", 2)])
     {
         tally.same(calls::list(format!("(trace\n{full} {line}").as_bytes(), 0), Err(number), &line);
     }

@@ -86,6 +86,53 @@ fn every_length_to_1100() {
     tally.at_least(2200);
 }
 
+/// The plan with other segs, of up to so many reads each.
+fn with_segs(random: &mut Random, plan: &Plan, most: usize) -> Plan {
+    match plan {
+        Plan::Seg(_) => Plan::Seg(random.below(most + 1) as u64),
+        Plan::Join(parts) => Plan::Join(parts.iter().map(|part| with_segs(random, part, most)).collect()),
+    }
+}
+
+#[test]
+fn plans_of_larger_segs() {
+    let mut tally = Tally::new("plans of larger segs, on logs of few and of many extents");
+    let mut random = Random::new(116);
+    let (mut carried, mut refused) = (0, 0);
+    for round in 0..270 {
+        let plan = made::plan(&mut random, round % (MAX_DEPTH + 1));
+        let segs = plan.text().iter().filter(|byte| **byte == b'g').count();
+        let plan = with_segs(&mut random, &plan, 20 + 1200 / segs);
+        let log = log_for(&mut random, &plan, 500);
+        match plans::carry_out(&plan.text(), &log) {
+            Ok(_) => carried += 1,
+            Err(number) => refused += u32::from(number == refusal::EXTENTS),
+        }
+        compare(&mut tally, &plan.text(), &log);
+    }
+    assert!(carried >= 100 && refused >= 30, "{carried} carried out, {refused} refused");
+    tally.at_least(2100);
+}
+
+#[test]
+fn every_length_about_the_needed() {
+    let mut tally = Tally::new("plans with work words and buffers about the needed lengths");
+    let mut random = Random::new(117);
+    for round in 0..54 {
+        let plan = made::plan(&mut random, round % (MAX_DEPTH + 1));
+        let (text, log) = (plan.text(), log_for(&mut random, &plan, 30));
+        let wanted = plans::carry_out(&text, &log);
+        let (work, words) = (LEVEL_WORDS * plan.depth(), 2 + 3 * trace::firsts(&log).len());
+        for work in work.saturating_sub(2)..=work + 2 {
+            for room in words - 2..=words + 2 {
+                let got = calls::plan(&text, &log, work, room);
+                tally.same(got, plans::within(&wanted, work, room), &(&plan, &log, work, room));
+            }
+        }
+    }
+    tally.at_least(54 * 15);
+}
+
 #[test]
 fn segs_that_do_not_add_up() {
     let mut tally = Tally::new("plans whose segs do not add up to the log");
@@ -164,37 +211,12 @@ fn at_the_limits_of_depth_and_parts() {
     tally.at_least(400);
 }
 
-/// A plan of three levels of joins of 16 parts, some of whose segs are of 10 reads, so that its text is so long.
-fn plan_of_length(bytes: usize) -> Plan {
-    let level = |inner: &Plan| Plan::Join(vec![inner.clone(); MAX_PARTS]);
-    let three = level(&level(&level(&Plan::Seg(0))));
-    let four = |parts: usize| Plan::Join([vec![three.clone()], vec![level(&level(&Plan::Seg(0))); parts]].concat());
-    let parts = (1..MAX_PARTS).rev().find(|parts| four(*parts).text().len() <= bytes).expect("a plan short enough");
-    let mut plan = four(parts);
-    let mut left = bytes - plan.text().len();
-    lengthen(&mut plan, &mut left);
-    assert_eq!((plan.text().len(), left), (bytes, 0));
-    plan
-}
-
-/// Makes each of the first so many segs of a plan one digit longer.
-fn lengthen(plan: &mut Plan, left: &mut usize) {
-    match plan {
-        Plan::Seg(reads) if *left > 0 => {
-            *reads = 10;
-            *left -= 1;
-        }
-        Plan::Seg(_) => {}
-        Plan::Join(parts) => parts.iter_mut().for_each(|part| lengthen(part, left)),
-    }
-}
-
 #[test]
 fn at_the_limit_of_bytes() {
     let mut tally = Tally::new("plans at 65,536 bytes");
     let mut random = Random::new(114);
     for bytes in [MAX_BYTES - 1, MAX_BYTES, MAX_BYTES + 1] {
-        let plan = plan_of_length(bytes);
+        let plan = made::plan_of_length(bytes);
         let log = log_for(&mut random, &plan, 5);
         let got = calls::plan(&plan.text(), &log, LEVEL_WORDS * 4, 770);
         let carried = Carried { words: summary::of(&log), cleared: LEVEL_WORDS * 4 };
@@ -232,4 +254,34 @@ fn refusals_in_order() {
     let unended = |text: Vec<u8>| plan(&text[..text.len() - 1]);
     assert_eq!(unended(sixteen(" (seg 0)")), Err(refusal::LINE));
     assert_eq!(unended(b"(seg 1048577)\n".to_vec()), Err(refusal::LINE));
+}
+
+#[test]
+fn the_earliest_line_decides() {
+    let log: Vec<u32> = (0..1000).collect();
+    let (line, number, deep) = ("(seg 01)", "(seg 1048577)", "(join");
+    let open = |joins: usize| -> String { (0..joins).map(|join| format!("{}(join\n", " ".repeat(join))).collect() };
+    let eight = |rest: &str| format!("{}{}{rest}\n", open(8), " ".repeat(8));
+    let two = |one: &str, other: &str| eight(&format!("{one}\n{}{other}", " ".repeat(8)));
+    let texts = [
+        (eight(deep), refusal::PLAN),
+        (eight("(join "), refusal::LINE),
+        (eight(line), refusal::LINE),
+        (eight(number), refusal::NUMBER),
+        (two(line, number), refusal::LINE),
+        (two(line, deep), refusal::LINE),
+        (two(number, line), refusal::NUMBER),
+        (two(number, deep), refusal::NUMBER),
+        (two(deep, line), refusal::PLAN),
+        (two(deep, number), refusal::PLAN),
+        (eight("(seg 1048577) x"), refusal::LINE),
+        (eight("(seg 1048577)))"), refusal::LINE),
+        (eight("(seg 1)"), refusal::LINE),
+    ];
+    for (text, wanted) in texts {
+        assert_eq!(plans::carry_out(text.as_bytes(), &log), Err(wanted), "{text}");
+        assert_eq!(calls::plan(text.as_bytes(), &log, 0, 0), Err(wanted), "{text}");
+        let long = [text.as_bytes(), &vec![b' '; MAX_BYTES]].concat();
+        assert_eq!(calls::plan(&long, &log, 0, 0), Err(refusal::PLAN), "{text}");
+    }
 }

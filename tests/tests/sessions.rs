@@ -183,3 +183,32 @@ fn at_the_limit_of_reads() {
     }
     tally.at_least(500);
 }
+
+#[test]
+fn refusals_in_order() {
+    let mut tally = Tally::new("sessions that are refused for two or three reasons");
+    let mut random = Random::new(88);
+    let (known, another): (Vec<u32>, u32) = ((0..256).collect(), 256);
+    let mut session = |known: &[u32], reads: usize, damaged: bool| {
+        let mut words = made::session_over(&mut random, known, reads - known.len(), 300);
+        words[session::SUMS.end - 1] ^= u32::from(damaged);
+        words
+    };
+    let most = MAX_READS as usize;
+    for (known, reads, damaged, wanted) in [
+        (&known[..], most, true, Err(refusal::STATE)),
+        (&known[..], most - 1, true, Err(refusal::STATE)),
+        (&known[..1], most, true, Err(refusal::STATE)),
+        (&known[..], most, false, Err(refusal::READS)),
+        (&known[..1], most, false, Err(refusal::READS)),
+        (&known[..], most - 1, false, Err(refusal::EXTENTS)),
+        (&known[..255], most - 1, false, Ok(Reading { distance: 0, sums_read: 0 })),
+    ] {
+        let mut words = session(known, reads, damaged);
+        let wanted_summary = if damaged { Err(refusal::STATE) } else { Err(refusal::ROOM) };
+        tally.same(calls::session_summary(&words, 1 + 3 * known.len()), wanted_summary, &reads);
+        tally.same(calls::session_read(&mut words.clone(), another), wanted, &(reads, damaged));
+        step(&mut tally, &mut words, another);
+    }
+    tally.at_least(28);
+}

@@ -1,5 +1,1 @@
-pub mod Signed
-pub mod Small
-pub mod Laid
-pub mod Kept
-pub mod Listed
+mod Small

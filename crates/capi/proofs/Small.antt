@@ -1,33 +1,30 @@
--- Every call that writes words writes fewer than a signed number holds.
+-- Every call that writes words writes no more than the buffer has, and so no more than a signed number holds.
 use mathlib.Core.Path.{_≡_, refl}
-use Prim.Native.Nat.{ℕ, _+_, _*_, _≤_}
+use Prim.Native.Nat.{ℕ, _+_, _≤_}
 use native.Mathlib.Omega.{arith}
-use mathlib.Core.List.{List, _++_, map}
-use mathlib.Core.Bool.{Bool, true, false, cond, _&&_}
+use mathlib.Core.List.{List, _++_}
+use mathlib.Core.Bool.{Bool, true, false, cond, _&&_, false≢true}
 use lib.Dec.{eqb, leb}
-use lib.ListN.{length, length-map}
+use lib.ListN.{length}
 use borrow.Author.Tests.{leb-true}
 use Rattle.reuse.specs.Limits.{maxReads, maxExtents}
 use Rattle.reuse.specs.Lists.{firsts}
-use Rattle.reuse.specs.Lru.{reuses}
-use Rattle.reuse.specs.Summary.{wellFormed, readsOf, firstOf, recentOf, joinedFirst, joinOf, summaryOf}
-use Rattle.reuse.proofs.Stack.{length-reuses}
-use Rattle.reuse.proofs.Words.{length-summary}
+use Rattle.reuse.specs.Summary.{wellFormed, readsOf, firstOf, joinedFirst, summaryOf}
 use Rattle.summary_calls.specs.declared.Written.{Written}
-use Rattle.summary_calls.specs.Calls.{Wrote, wrote, refused, traceCall, joinCall}
-use Rattle.summary_calls.proofs.Calls.{join-length}
-use Rattle.after.specs.Calls.{wordOf, afterCall}
-use Rattle.session.specs.declared.Session.{Session}
+use Rattle.summary_calls.specs.Calls.{Wrote, wrote, traceCall, joinCall}
+use Rattle.after.specs.Calls.{afterCall}
 use Rattle.session.specs.Sessions.{sound}
-use Rattle.session.specs.Steps.{Wide}
-use Rattle.session.specs.Summaries.{sessionWords, summaryCall}
-use Rattle.session.proofs.Sound.{kept-few, rows-of}
-use Rattle.session.proofs.Summaries.{length-session}
+use Rattle.session_summary.specs.Summaries.{summaryCall}
 use Rattle.texts.specs.Lines.{Read, got, refused as faulty}
+use Rattle.texts.specs.Logs.{logOf}
 use Rattle.texts.specs.Plans.{Plan, reads}
 use Rattle.texts.specs.PlanTexts.{planOf}
-use Rattle.plan.specs.Calls.{Ran, declined, workWords, carriedOut, planCall, runBy, runCall}
-use Rattle.capi.specs.Answers.{Small}
+use Rattle.plan.specs.Calls.{Ran, workWords, carriedOut, planCall, runBy, runCall}
+use Rattle.listing_memory.specs.Calls.{listBy, listCall}
+use Rattle.session_words.specs.Layout.{sessionLength, sessionIn}
+use Rattle.session_words.specs.Calls.{newSession, summaryIn}
+use Rattle.watch_words.specs.Calls.{newWatch}
+use Rattle.capi_answers.specs.Answers.{mostSigned, Small}
 
 -- by a test of what has an answer: small where it holds, and small where it does not
 small-if : {A : Type 0} (answer : A → Written) (b : Bool) (x y : A) → (b ≡ true → Small (answer x)) → Small (answer y) → Small (answer (cond b x y))
@@ -41,76 +38,97 @@ wordsOf v = v .answer
 abbrev ranOf : Ran → Written
 ranOf v = v .answer
 
--- few words are written, or none
-small-wrote : (w buffer : List ℕ) → length w ≤ maxReads → Small (wrote w buffer .answer)
-unfolding wrote
-small-wrote w buffer h = small-if wordsOf (leb (length w) (length buffer)) _ _ (λ _. h) tt
+-- the second of two tests that both hold
+second : (a b : Bool) → a && b ≡ true → b ≡ true
+second true b e = e
+second false b e = absurd (false≢true e)
 
--- the summary of a trace
-pub small-trace : (t buffer : List ℕ) → Small (traceCall t buffer .answer)
-unfolding traceCall
-small-trace t buffer =
-    small-if wordsOf (leb (length t) maxReads) _ _
-    (λ _. small-if wordsOf (leb (length (firsts t)) maxExtents) _ _
-    (λ h. small-wrote (summaryOf t) buffer (omega (arith, leb-true (length (firsts t)) maxExtents h, length-summary t)))
-    tt)
-    tt
+module _ (buffer : List ℕ) (room : length buffer ≤ mostSigned) where
+  -- the words fit the buffer, or none is written
+  small-wrote : (w : List ℕ) → Small (wrote w buffer .answer)
+  unfolding wrote
+  small-wrote w =
+      small-if wordsOf (leb (length w) (length buffer)) _ _ (λ h. omega (arith, leb-true (length w) (length buffer) h)) tt
 
--- the join
-pub small-join : (a b buffer : List ℕ) → Small (joinCall a b buffer .answer)
-unfolding joinCall
-small-join a b buffer =
-    small-if wordsOf (wellFormed a) _ _
-    (λ ha. small-if wordsOf (wellFormed b) _ _
-    (λ hb. small-if wordsOf (leb (readsOf a + readsOf b) maxReads) _ _
-    (λ _. small-if wordsOf (leb (length (joinedFirst a b)) maxExtents) _ _
-    (λ h. small-wrote (joinOf a b) buffer (omega (arith, leb-true (length (joinedFirst a b)) maxExtents h, join-length a b ha hb)))
-    tt)
-    tt)
-    tt)
-    tt
+  -- the summary of a trace
+  pub small-trace : (t : List ℕ) → Small (traceCall t buffer .answer)
+  unfolding traceCall
+  small-trace t =
+      small-if wordsOf (leb (length t) maxReads) _ _
+      (λ _. small-if wordsOf (leb (length (firsts t)) maxExtents) _ _ (λ _. small-wrote _) tt)
+      tt
 
--- the distances after a prefix
-pub small-after : (prefix t buffer : List ℕ) → Small (afterCall prefix t buffer .answer)
-unfolding afterCall
-small-after prefix t buffer =
-    small-if wordsOf (wellFormed prefix) _ _
-    (λ _. small-if wordsOf (leb (readsOf prefix + length t) maxReads) _ _
-    (λ h. small-if wordsOf (leb (length (firsts (firstOf prefix ++ t))) maxExtents) _ _
-    (λ _. small-wrote (map wordOf (reuses (recentOf prefix) t)) buffer
-    (omega (arith, leb-true (readsOf prefix + length t) maxReads h, length-map (reuses (recentOf prefix) t) wordOf, length-reuses (recentOf prefix) t)))
-    tt)
-    tt)
-    tt
+  -- the join
+  pub small-join : (a b : List ℕ) → Small (joinCall a b buffer .answer)
+  unfolding joinCall
+  small-join a b =
+      small-if wordsOf (wellFormed a) _ _
+      (λ _. small-if wordsOf (wellFormed b) _ _
+      (λ _. small-if wordsOf (leb (readsOf a + readsOf b) maxReads) _ _
+      (λ _. small-if wordsOf (leb (length (joinedFirst a b)) maxExtents) _ _ (λ _. small-wrote _) tt)
+      tt)
+      tt)
+      tt
 
--- a plan on a log
-small-plan : (t : Plan) (log work out : List ℕ) → Small (planCall t log work out .answer)
-unfolding planCall carriedOut
-small-plan t log work out =
-    small-if ranOf (eqb (reads t) (length log)) _ _
-    (λ _. small-if ranOf (leb (length log) maxReads) _ _
-    (λ _. small-if ranOf (leb (length (firsts log)) maxExtents) _ _
-    (λ h. small-if ranOf (leb (workWords t) (length work) && leb (length (summaryOf log)) (length out)) _ _
-    (λ _. omega (arith, leb-true (length (firsts log)) maxExtents h, length-summary log))
-    tt)
-    tt)
-    tt)
-    tt
+  -- the distances after a prefix
+  pub small-after : (prefix t : List ℕ) → Small (afterCall prefix t buffer .answer)
+  unfolding afterCall
+  small-after prefix t =
+      small-if wordsOf (wellFormed prefix) _ _
+      (λ _. small-if wordsOf (leb (readsOf prefix + length t) maxReads) _ _
+      (λ _. small-if wordsOf (leb (length (firsts (firstOf prefix ++ t))) maxExtents) _ _
+      (λ _. small-wrote _)
+      tt)
+      tt)
+      tt
 
--- by a plan text's answer
-small-by : (p : Read Plan) (log work out : List ℕ) → Small (runBy p log work out .answer)
-small-by (got t) log work out = small-plan t log work out
-small-by (faulty line n) log work out = tt
+  -- a plan on a log
+  small-plan : (t : Plan) (log work : List ℕ) → Small (planCall t log work buffer .answer)
+  unfolding planCall carriedOut
+  small-plan t log work =
+      small-if ranOf (eqb (reads t) (length log)) _ _
+      (λ _. small-if ranOf (leb (length log) maxReads) _ _
+      (λ _. small-if ranOf (leb (length (firsts log)) maxExtents) _ _
+      (λ _. small-if ranOf (leb (workWords t) (length work) && leb (length (summaryOf log)) (length buffer)) _ _
+      (λ h. omega (arith, leb-true (length (summaryOf log)) (length buffer) (second (leb (workWords t) (length work)) (leb (length (summaryOf log)) (length buffer)) h)))
+      tt)
+      tt)
+      tt)
+      tt
 
--- a plan text on a log
-pub small-run : (text log work out : List ℕ) → Small (runCall text log work out .answer)
-unfolding runCall
-small-run text log work out = small-by (planOf text) log work out
+  -- by a plan text's answer
+  small-by : (p : Read Plan) (log work : List ℕ) → Small (runBy p log work buffer .answer)
+  small-by (got t) log work = small-plan t log work
+  small-by (faulty line n) log work = tt
 
--- a session's summary
-pub small-summary : (s : Session) (buffer : List ℕ) → Wide (s .first) (s .hist) (s .slots) (s .sums) → Small (summaryCall s buffer .answer)
-unfolding summaryCall
-small-summary s buffer wide =
-    small-if wordsOf (sound s) _ _
-    (λ h. let k = rows-of s wide h in small-wrote (sessionWords s) buffer (omega (arith, length-session s k, kept-few s k)))
-    tt
+  -- a plan text on a log
+  pub small-run : (text log work : List ℕ) → Small (runCall text log work buffer .answer)
+  unfolding runCall
+  small-run text log work = small-by (planOf text) log work
+
+  -- by a log text's answer
+  small-listed : (r : Read (List ℕ)) → Small (listBy r buffer .answer)
+  small-listed (got t) = small-wrote _
+  small-listed (faulty line n) = tt
+
+  -- the listing of a text
+  pub small-list : (text : List ℕ) → Small (listCall text buffer .answer)
+  unfolding listCall
+  small-list text = small-listed (logOf text)
+
+  -- a new session, and a new watch
+  pub small-session : Small (newSession buffer .answer)
+  unfolding newSession
+  small-session = small-wrote _
+
+  pub small-watch : (size : ℕ) → Small (newWatch size buffer .answer)
+  unfolding newWatch
+  small-watch size = small-wrote _
+
+  -- the summary of a session in words
+  pub small-summary : (w : List ℕ) → Small (summaryIn w buffer .answer)
+  unfolding summaryIn summaryCall
+  small-summary w =
+      small-if wordsOf (leb sessionLength (length w)) _ _
+      (λ _. small-if wordsOf (sound (sessionIn w)) _ _ (λ _. small-wrote _) tt)
+      tt

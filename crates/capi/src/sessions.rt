@@ -1,22 +1,15 @@
 // A session kept in lent words.
-use crate::answers;
-use crate::layout;
-use session::Session;
 ghost use mathlib.Core.Path.{_≡_};
-ghost use Rattle.capi.specs.Answers.{counted, told, sumsLeft};
-ghost use Rattle.capi.specs.Calls.{newSession, readIn, sessionLeft, summaryIn};
+ghost use Rattle.capi_answers.specs.Answers.{counted, told, sumsLeft};
+ghost use Rattle.session_words.specs.Calls.{newSession, readIn, sessionLeft, summaryIn};
 
 // A new session's words at the front of the row: how many.
 #[no_mangle]
 pub extern "C" fn jemqolu_session_new(session: &mut [u32]) -> i64
     ensures { λ r. ⌜ (r ≡ counted (newSession (now (session .entry)) .answer)) × (now (session .exit) ≡ newSession (now (session .entry)) .buffer) ⌝ }
 {
-    if session.len() < layout::SESSION {
-        return answers::refusal(6);
-    }
-    let s = Session::new();
-    layout::put_session(session, s);
-    layout::SESSION as i64
+    let w = session_words::new_session(session);
+    capi_answers::count(w)
 }
 
 // A read of the extent by the session in the words: its distance, 0 for a cold read, and how many sums it looked at.
@@ -26,18 +19,8 @@ pub extern "C" fn jemqolu_session_read(session: &mut [u32], extent: u32, sums: &
     ensures session { λ r. ⌜ now (session .exit) ≡ sessionLeft (readIn (now (session .entry)) extent .answer) (readIn (now (session .entry)) extent .session) (now (session .entry)) ⌝ }
     ensures sums { λ r. ⌜ now (sums .exit) ≡ sumsLeft (readIn (now (session .entry)) extent .answer) (now (sums .entry)) ⌝ }
 {
-    if session.len() < layout::SESSION {
-        return answers::refusal(7);
-    }
-    let s = layout::session_in(session);
-    let step = s.read(extent);
-    let answer = step.answer;
-    if !answers::accepted(answer) {
-        return answers::read(answer, sums);
-    }
-    let after = step.session;
-    layout::put_session(session, after);
-    answers::read(answer, sums)
+    let a = session_words::read(session, extent);
+    capi_answers::read(a, sums)
 }
 
 // The summary of the session in the words, at the front of `out`: how many words.
@@ -45,10 +28,6 @@ pub extern "C" fn jemqolu_session_read(session: &mut [u32], extent: u32, sums: &
 pub extern "C" fn jemqolu_session_summary(session: &[u32], out: &mut [u32]) -> i64
     ensures { λ r. ⌜ (r ≡ counted (summaryIn (now (session .entry)) (now (out .entry)) .answer)) × (now (out .exit) ≡ summaryIn (now (session .entry)) (now (out .entry)) .buffer) ⌝ }
 {
-    if session.len() < layout::SESSION {
-        return answers::refusal(7);
-    }
-    let s = layout::session_in(session);
-    let w = s.summary(out);
-    answers::count(w)
+    let w = session_words::summary(session, out);
+    capi_answers::count(w)
 }

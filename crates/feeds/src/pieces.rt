@@ -1,88 +1,67 @@
-// A text fed in pieces, and the page compared with the wanted output.
-use crate::count::Count;
-use crate::text;
+// A text fed in pieces, empty ones among them.
+ghost use Prim.Native.Nat.{_≤_};
 use listing::Lister;
 use listing::Page;
 
-// Whether the text of a page is the wanted output.
-pub fn shows(page: Page, wanted: &[u8]) -> bool {
-    let bytes = page.bytes;
-    let n = page.len;
-    text::same(text::front(&bytes, n), wanted)
-}
-
-// The page of a text fed in three pieces, cut before byte a and before byte b.
-fn page_of(log: &[u8], a: usize, b: usize) -> Page {
-    let none = Lister::new();
-    let first = none.feed(text::front(log, a));
-    let second = first.feed(text::span(log, a, b));
-    let third = second.feed(text::span(log, b, log.len()));
-    third.finish()
-}
-
-// The page of a text fed whole.
-fn whole_page(log: &[u8]) -> Page {
-    let none = Lister::new();
-    let all = none.feed(log);
-    all.finish()
-}
-
-// The page of a text fed in two pieces, cut before byte a.
-fn page_of_two(log: &[u8], a: usize) -> Page {
-    let none = Lister::new();
-    let first = none.feed(text::front(log, a));
-    let second = first.feed(text::span(log, a, log.len()));
-    second.finish()
-}
+// The most bytes of a text that is cut into three pieces.
+const SHORT: usize = 100;
 
 // The page of a text fed byte by byte.
-fn page_of_bytes(log: &[u8]) -> Page {
+pub fn by_bytes(text: &[u8]) -> Page {
     let mut lister = Lister::new();
-    for i in 0..log.len() {
-        lister = lister.feed(text::span(log, i, text::plus(i, 1)));
+    for i in 0..text.len() {
+        lister = lister.feed(&text[i..i + 1]);
     }
     lister.finish()
 }
 
-// A text fed whole and byte by byte.
-fn ends(log: &[u8], wanted: &[u8], count: Count) -> Count {
-    let c = count.tally(shows(whole_page(log), wanted));
-    c.tally(shows(page_of_bytes(log), wanted))
+// The page of a text fed in three pieces, cut before byte a and before byte b.
+fn by_three(text: &[u8], a: usize, b: usize) -> Page
+    requires { ⌜ a ≤ b ⌝ }
+    requires { do ⌜ b ≤ (← ⟦text.len()⟧) ⌝ }
+{
+    let none = Lister::new();
+    let first = none.feed(&text[0..a]);
+    let second = first.feed(&text[a..b]);
+    let third = second.feed(&text[b..]);
+    third.finish()
 }
 
-// A text fed in two pieces, cut at every byte and at both ends.
-fn twos(log: &[u8], wanted: &[u8], count: Count) -> Count {
-    let mut c = count;
-    for a in 0..text::plus(log.len(), 1) {
-        c = c.tally(shows(page_of_two(log, a), wanted));
+// The first n bytes, or none where there are fewer.
+pub fn front<'a>(bytes: &'a [u8], n: usize) -> &'a [u8] {
+    if n <= bytes.len() {
+        return &bytes[0..n];
     }
-    c
+    &bytes[0..0]
 }
 
-// A text fed in three pieces, the second cut before byte b.
-fn threes_at(log: &[u8], wanted: &[u8], b: usize, count: Count) -> Count {
-    let mut c = count;
-    for a in 0..text::plus(b, 1) {
-        c = c.tally(shows(page_of(log, a, b), wanted));
+// How many of the cuttings before byte b, and before a byte up to it, give the output wanted; or else how many do not.
+fn cut_at(text: &[u8], b: usize, wanted: &[u8], agree: bool) -> u64
+    requires { do ⌜ b ≤ (← ⟦text.len()⟧) ⌝ }
+{
+    let mut n: u64 = 0;
+    for a in 0..=b {
+        let page = by_three(text, a, b);
+        let bytes = page.bytes;
+        let same = check::same(front(&bytes, page.len), wanted);
+        n = std::num::wrapping_add_u64(n, (same == agree) as u64);
     }
-    c
+    n
 }
 
-// A text fed in three pieces, each cutting of them.
-fn threes(log: &[u8], wanted: &[u8], count: Count) -> Count {
-    let mut c = count;
-    for b in 0..text::plus(log.len(), 1) {
-        c = threes_at(log, wanted, b, c);
+// The same of all cuttings into three pieces.
+fn threes(text: &[u8], wanted: &[u8], agree: bool) -> u64 {
+    let mut n: u64 = 0;
+    for b in 0..=text.len() {
+        n = std::num::wrapping_add_u64(n, cut_at(text, b, wanted, agree));
     }
-    c
+    n
 }
 
-// A long text: whole, byte by byte, and each cutting into two pieces.
-pub fn compare_long(log: &[u8], wanted: &[u8]) -> Count {
-    twos(log, wanted, ends(log, wanted, Count::none()))
-}
-
-// A text: whole, byte by byte, and each cutting into two and into three pieces.
-pub fn compare(log: &[u8], wanted: &[u8]) -> Count {
-    threes(log, wanted, compare_long(log, wanted))
+// The same of all cuttings of a text, into three pieces where it is short and into two where it is long.
+pub fn cuttings(text: &[u8], wanted: &[u8], agree: bool) -> u64 {
+    if SHORT < text.len() {
+        return cut_at(text, text.len(), wanted, agree);
+    }
+    threes(text, wanted, agree)
 }

@@ -1,29 +1,30 @@
-// The lines that the program prints.
-use crate::count::Count;
+// What the program prints.
 use crate::pieces;
 use libc::STDOUT_FILENO;
 
-// One line: the text's name, how many cuttings were compared, and how many differ.
-pub fn line(name: &[u8], count: Count) {
+// The name of a text, and its output.
+pub fn output(name: &[u8], page: &[u8]) {
     io::write_all(STDOUT_FILENO, name);
-    io::write_all(STDOUT_FILENO, b": compared ");
-    io::print_decimal(STDOUT_FILENO, count.compared);
-    io::write_all(STDOUT_FILENO, b", differ ");
-    io::print_decimal(STDOUT_FILENO, count.differ);
-    io::write_all(STDOUT_FILENO, b"\n");
+    io::write_all(STDOUT_FILENO, b":\n");
+    io::write_all(STDOUT_FILENO, page);
 }
 
-// A short text at every cutting.
-pub fn text(name: &[u8], log: &[u8], wanted: &[u8]) {
-    line(name, pieces::compare(log, wanted));
+// How many cuttings give that output, and how many do not.
+fn counts(agree: u64, differ: u64) {
+    io::print_decimal(STDOUT_FILENO, agree);
+    io::write_all(STDOUT_FILENO, b" cuttings agree, ");
+    io::print_decimal(STDOUT_FILENO, differ);
+    io::write_all(STDOUT_FILENO, b" differ\n");
 }
 
-// A text refused with 1 at every cutting.
-pub fn faulty(name: &[u8], log: &[u8]) {
-    text(name, log, b"(refused 1)\n");
-}
-
-// A text refused with 2 at every cutting.
-pub fn above(name: &[u8], log: &[u8]) {
-    text(name, log, b"(refused 2)\n");
+// A text: its output fed byte by byte, and its cuttings.
+pub fn text(name: &[u8], text: &[u8]) {
+    let page = pieces::by_bytes(text);
+    let bytes = page.bytes;
+    let wanted = pieces::front(&bytes, page.len);
+    output(name, wanted);
+    counts(
+        pieces::cuttings(text, wanted, true),
+        pieces::cuttings(text, wanted, false),
+    );
 }

@@ -1,44 +1,16 @@
 -- Whatever way a text is cut into pieces, what comes out is the listing of all of them end to end, and the verdict on it.
-use mathlib.Core.Path.{_≡_, refl, sym, ap, _∙_}
-use Prim.Native.Nat.{ℕ, suc}
+use mathlib.Core.Path.{_≡_, sym, ap, _∙_}
+use Prim.Native.Nat.{ℕ}
 use mathlib.Core.List.{List, [], _∷_}
-use Rattle.texts.specs.Lines.{at, stopped, Read, refused, finishBy}
-use Rattle.texts.proofs.Feeding.{absorb}
-use Rattle.texts.specs.Logs.{logRoom, logOf}
-use Rattle.listing.specs.Tallies.{Tally}
-use Rattle.listing.specs.Listings.{listingOf}
-use Rattle.listing.specs.Feeding.{empty, inside, whole, takeLine, State, takePiece, takenWhole, printedBy, printedAt, verdictBy, verdictAt}
-use Rattle.listing.specs.Listers.{stateOf, unnumbered}
+use Rattle.texts.specs.Lines.{at}
+use Rattle.texts.specs.Logs.{logOf}
+use Rattle.listing_texts.specs.Listings.{listingOf}
+use Rattle.listing_texts.specs.Feeding.{empty, State, takePiece, unnumbered, printedAt, verdictBy, verdictAt}
+use Rattle.listing_texts.proofs.Refining.{pieces-join, listing-whole, verdict-text}
+use Rattle.listing_texts.proofs.Unnumbered.{take-none, uncounted, printed-uncounted, verdict-uncounted}
+use Rattle.listing.specs.Listers.{stateOf}
 use Rattle.listing.specs.Runs.{endToEnd, Fed}
 use Rattle.listing.specs.declared.Lister.{Lister}
-use Rattle.listing.proofs.Refining.{pieces-join, listing-whole, verdict-text}
-use Rattle.listing.proofs.Turns.{shift, take-none}
-
--- what comes after does not depend on how many lines stand before
-uncounted : (s : State) (l : List ℕ) → unnumbered (takePiece (unnumbered s) l) ≡ unnumbered (takePiece s l)
-unfolding takePiece
-uncounted (at k held s) l = shift l 0 k held s
-uncounted (stopped k n) l = ap unnumbered (absorb takeLine logRoom 0 n l) ∙ sym (ap unnumbered (absorb takeLine logRoom k n l))
-
--- nor does what the answer at the end gives, where that is the same for every line
-answer-uncounted : {A : Type 0} (give : Read Tally → A) → ((j k n : ℕ) → give (refused j n) ≡ give (refused k n))
-    → (s : State) → give (finishBy takenWhole (unnumbered s)) ≡ give (finishBy takenWhole s)
-unfolding finishBy
-answer-uncounted give same (at k [] empty) = same 1 (suc k) 1
-answer-uncounted give same (at k [] (inside t)) = same 1 (suc k) 1
-answer-uncounted give same (at k [] (whole t)) = refl
-answer-uncounted give same (at k (x ∷ held) s) = same 1 (suc k) 1
-answer-uncounted give same (stopped k n) = same 0 k n
-
--- nor does the output
-printed-uncounted : (s : State) → printedAt (unnumbered s) ≡ printedAt s
-unfolding printedAt
-printed-uncounted s = answer-uncounted printedBy (λ j k n. refl) s
-
--- nor does the verdict
-verdict-uncounted : (s : State) → verdictAt (unnumbered s) ≡ verdictAt s
-unfolding verdictAt
-verdict-uncounted s = answer-uncounted verdictBy (λ j k n. refl) s
 
 -- pieces fed one by one are all of them fed at once
 fed-joins : (l r : Lister) (pieces : List (List ℕ)) → Fed l pieces r → unnumbered (stateOf r) ≡ unnumbered (takePiece (stateOf l) (endToEnd pieces))

@@ -9,28 +9,24 @@ use borrow.Author.Tests.{le-leb, eq-eqb}
 use Rattle.reuse.specs.Limits.{maxReads, maxExtents}
 use Rattle.reuse.specs.Lists.{sum}
 use Rattle.reuse.proofs.Lists.{by-test}
-use Rattle.texts.specs.Lines.{Answer, to, no, at, stopped}
+use Rattle.texts.specs.Lines.{stopped}
 use Rattle.texts.specs.Logs.{longestLine}
 use Rattle.texts.proofs.Tests.{never}
 use Rattle.texts.proofs.Positions.{gone}
-use Rattle.listing.specs.Feeding.{Taken, State, takePiece}
-use Rattle.listing.specs.Listers.{Tallied, tallyIn, takenBy, stateBy, stateIn, unnumbered, isStopped, soundLister, stateOf, takesMore, Turnable, Turned}
-use Rattle.listing.specs.declared.Phase.{Phase}
-use Rattle.listing.specs.declared.Phase.the-variants.{Empty, Inside, Whole, Stopped}
+use Rattle.listing_texts.specs.Feeding.{State, takePiece, unnumbered}
+use Rattle.listing_texts.proofs.Unnumbered.{take-none, stay, unnumbered-same}
+use Rattle.listing_tally.specs.Rows.{Tallied, tallyIn, takenBy}
+use Rattle.listing.specs.Listers.{stateIn, isStopped, soundLister, stateOf, takesMore, Turnable, Turned}
+use Rattle.listing_tally.specs.declared.Phase.{Phase}
+use Rattle.listing_tally.specs.declared.Phase.the-variants.{Empty, Inside, Whole, Stopped}
 use Rattle.listing.specs.declared.Lister.{Lister}
 use Rattle.listing.specs.declared.turning.Turn.{Turn}
-use Rattle.listing.proofs.Turns.{take-none, stay}
 
 -- rows that hold a tally make a sound lister
 pub sound-from : (l : Lister) → l .held ≤ longestLine → Tallied (l .reads) (l .extents) (l .stack) (l .counts) → soundLister l ≡ true
 unfolding soundLister
 sound-from l h g =
     rw (le-leb (l .held) longestLine h, le-leb (l .extents) maxExtents (g .few), le-leb (l .reads) maxReads (g .short), g .once, eq-eqb (l .extents + sum (take (l .extents) (l .counts))) (l .reads) (g .all))
-
--- lines were not counted in a state of a phase
-pub unnumbered-same : (a : Answer Taken) (held : List ℕ) → unnumbered (stateBy a held) ≡ stateBy a held
-unnumbered-same (to s) held = refl
-unnumbered-same (no n) held = refl
 
 -- a refused lister stands for a refusal
 stop-is : (l : Lister) → isStopped (l .phase) ≡ true → (n : ℕ) × (stateOf l ≡ stopped 0 n)
@@ -90,12 +86,12 @@ module _ (bytes : List ℕ) (start : State) (phase : Phase) (line : List ℕ) (h
     fed-more h = record { more = h; wide = f .wide; fits = f .fits; tally = f .tally; goes = f .goes h }
 
     -- a turn
-    pub fed-turn : (r : Turn) (line′ stack′ counts′ : List ℕ) → length line′ ≡ length line → Turned bytes pos (stateIn phase reads extents stack counts (take held line)) r line′ stack′ counts′
-        → Fed bytes start (r .phase) line′ (r .held) (r .reads) (r .extents) stack′ counts′ (r .at)
-    fed-turn r line′ stack′ counts′ w t = record {
+    pub fed-turn : (r : Turn) (stack′ counts′ : List ℕ) → Turned bytes pos (stateIn phase reads extents stack counts (take held line)) r stack′ counts′
+        → Fed bytes start (r .phase) (r .line) (r .held) (r .reads) (r .extents) stack′ counts′ (r .at)
+    fed-turn r stack′ counts′ t = record {
       inside = t .inside;
       fits = t .fits;
-      wide = w ∙ f .wide;
+      wide = t .wide;
       tally = t .tally;
       goes = t .goes;
       same = f .same ∙ t .same;

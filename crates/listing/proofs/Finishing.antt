@@ -10,15 +10,16 @@ use lib.Seq.{length-take-le}
 use Rattle.reuse.proofs.Lists.{by-test}
 use Rattle.texts.specs.Lines.{Answer, to, no, at, stopped, Read, got, refused, finishBy}
 use Rattle.texts.proofs.Tests.{never}
-use Rattle.listing.specs.Feeding.{Taken, empty, inside, whole, State, takenWhole, printedBy, printedAt, verdictBy, verdictAt}
-use Rattle.listing.specs.Listings.{listed, refusedText}
-use Rattle.listing.specs.Listers.{Tallied, tallyIn, takenBy, stateBy, soundLister, stateOf, stateIn}
-use Rattle.listing.specs.Pages.{Counted}
-use Rattle.listing.specs.Tallies.{Tally, missesBy}
+use Rattle.listing_texts.specs.Feeding.{Taken, empty, inside, whole, State, takenWhole, printedBy, printedAt, verdictBy, verdictAt, stateBy}
+use Rattle.listing_texts.specs.Listings.{listed, refusedText}
+use Rattle.listing_tally.specs.Rows.{Tallied, tallyIn, takenBy}
+use Rattle.listing.specs.Listers.{soundLister, stateOf, stateIn}
+use Rattle.listing_texts.specs.Pages.{Counted}
+use Rattle.listing_texts.specs.Tallies.{Tally, missesBy}
 use Rattle.listing.specs.declared.Lister.{Lister}
-use Rattle.listing.specs.declared.Phase.{Phase}
-use Rattle.listing.specs.declared.Phase.the-variants.{Empty, Inside, Whole, Stopped}
-use Rattle.listing.specs.declared.Verdict.the-variants.{Listed, Refused}
+use Rattle.listing_tally.specs.declared.Phase.{Phase}
+use Rattle.listing_tally.specs.declared.Phase.the-variants.{Empty, Inside, Whole, Stopped}
+use Rattle.listing_texts.specs.declared.Verdict.the-variants.{Listed, Refused}
 use Rattle.listing.proofs.Soundness.{state-sound, state-unsound}
 
 -- the end comes too early where nothing whole is read
@@ -74,7 +75,6 @@ counted reads extents stack counts g =
     let e : length (take extents counts) ≡ extents = length-take-le extents counts (omega arith) in
     record {
       few = omega arith;
-      short = g .short;
       whole = omega (arith, g .all);
     }
 

@@ -1,16 +1,5 @@
-pub mod Tallies
-pub mod Refining
-pub mod Listings
-pub mod Examples
-pub mod TallyRows
-pub mod Phases
-pub mod LineLaws
-pub mod PageLaws
-pub mod DigitLaws
-pub mod RowLaws
 pub mod Turns
 pub mod Feeds
 pub mod Soundness
 pub mod Cuttings
 pub mod Finishing
-pub mod Lengths

@@ -12,10 +12,11 @@ use Rattle.reuse.proofs.Lists.{both, by-test}
 use Rattle.texts.specs.Lines.{at, stopped}
 use Rattle.texts.specs.Logs.{longestLine}
 use Rattle.texts.proofs.Tests.{never}
-use Rattle.listing.specs.Feeding.{empty}
-use Rattle.listing.specs.Listers.{Tallied, soundLister, stateOf, stateIn}
+use Rattle.listing_texts.specs.Feeding.{empty}
+use Rattle.listing_tally.specs.Rows.{Tallied}
+use Rattle.listing.specs.Listers.{soundLister, stateOf, stateIn}
 use Rattle.listing.specs.declared.Lister.{Lister}
-use Rattle.listing.specs.declared.Phase.the-variants.{Empty}
+use Rattle.listing_tally.specs.declared.Phase.the-variants.{Empty}
 
 -- a lister with nothing taken yet, whatever stands in its rows
 pub state-new : (line stack counts : List ℕ)

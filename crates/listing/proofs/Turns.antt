@@ -4,106 +4,29 @@ use Prim.Native.Nat.{ℕ, suc, _+_, _-_, _≤_, _<_}
 use native.Mathlib.Omega.{arith}
 use mathlib.Core.List.{List, [], _∷_, _++_}
 use mathlib.Core.Bool.{true, false}
-use lib.Dec.{eqb}
-use lib.ListN.{length, take, drop, getD, length-append, length-drop, take-append-drop}
+use lib.Dec.{ltb, leb}
+use lib.ListN.{length, take, drop, getD, length-drop, take-append-drop}
 use lib.Seq.{length-take-le, take-all, take-suc, split-at, drop-drop}
-use borrow.Author.Tests.{lt-ltb, le-ltb}
-use Rattle.texts.specs.Lines.{Answer, to, no, at, stopped, byte, feedBy, lineDone, lineCount}
-use Rattle.texts.specs.Logs.{longestLine, logRoom}
+use borrow.Author.Tests.{ltb-true, ltb-false, leb-true, leb-false}
+use Rattle.reuse_rows.specs.Rows.{placed}
+use Rattle.reuse.proofs.Lists.{by-test}
+use Rattle.texts.specs.Lines.{Answer, to, no, at, stopped, lineCount}
+use Rattle.texts.specs.Logs.{longestLine}
 use Rattle.texts.proofs.Tests.{never}
-use Rattle.texts.proofs.Feeding.{count-end, count-append, feed-append, absorb, feed-rest, by-byte}
 use Rattle.texts.proofs.Positions.{gone}
-use Rattle.listing.specs.Tallies.{Tally}
-use Rattle.listing.specs.Feeding.{Taken, empty, inside, whole, takeLine, State, takePiece}
-use Rattle.listing.specs.Listers.{lineLength, Tallied, tallyIn, takenBy, takenIn, andThen, stateBy, stateIn, unnumbered, isStopped, Turnable, Turned}
-use Rattle.listing.specs.declared.Phase.{Phase}
-use Rattle.listing.specs.declared.Phase.the-variants.{Empty, Inside, Whole, Stopped}
-use Rattle.listing.specs.declared.taking.Progress.{Progress}
-use Rattle.listing.specs.declared.turning.Turn.{Turn}
-use Rattle.listing.proofs.LineLaws.{length-within, length-line, length-ends}
-
--- the lines before do not matter
-pub shift : (l : List ℕ) (k j : ℕ) (held : List ℕ) (s : Taken) → unnumbered (takePiece (at k held s) l) ≡ unnumbered (takePiece (at j held s) l)
-unfolding takePiece feedBy
-shift [] k j held s = refl
-shift (x ∷ l) k j held s =
-    by-byte takeLine logRoom k held s x
-    (λ s₁ e q f. by-byte takeLine logRoom j held s x
-    (λ s₂ d r g. let z : s₁ ≡ s₂ = cc in ap unnumbered (f l) ∙ shift l (suc k) (suc j) [] s₁ ∙ ap (λ (v : Taken). unnumbered (takePiece (at (suc j) [] v) l)) z ∙ sym (ap unnumbered (g l)))
-    (λ n d r g. never (cc))
-    (λ d r g. never (cc))
-    (λ d r g. never (cc)))
-    (λ n e q f. by-byte takeLine logRoom j held s x
-    (λ s₂ d r g. never (cc))
-    (λ m d r g. let z : n ≡ m = cc in ap unnumbered (f l) ∙ ap (λ (v : ℕ). stopped 0 v) z ∙ sym (ap unnumbered (g l)))
-    (λ d r g. never (cc))
-    (λ d r g. never (cc)))
-    (λ e r f. by-byte takeLine logRoom j held s x
-    (λ s₂ d q g. never (cc))
-    (λ m d q g. never (cc))
-    (λ d q g. ap unnumbered (f l) ∙ shift l k j (held ++ (x ∷ [])) s ∙ sym (ap unnumbered (g l)))
-    (λ d q g. never (cc)))
-    (λ e r f. by-byte takeLine logRoom j held s x
-    (λ s₂ d q g. never (cc))
-    (λ m d q g. never (cc))
-    (λ d q g. never (cc))
-    (λ d q g. ap unnumbered (f l) ∙ sym (ap unnumbered (g l))))
-
--- after a line, likewise
-after-line : (k : ℕ) (a : Answer Taken) (l : List ℕ) → unnumbered (takePiece (lineDone k a) l) ≡ unnumbered (takePiece (stateBy a []) l)
-unfolding lineDone takePiece
-after-line k (to s) l = shift l (suc k) 0 [] s
-after-line k (no n) l = ap unnumbered (absorb takeLine logRoom (suc k) n l) ∙ sym (ap unnumbered (absorb takeLine logRoom 0 n l))
-
--- nothing more is taken
-pub take-none : (s : State) → takePiece s [] ≡ s
-unfolding takePiece feedBy
-take-none s = refl
-
--- a refused text stays refused
-pub stay : (n : ℕ) (l : List ℕ) → takePiece (stopped 0 n) l ≡ stopped 0 n
-unfolding takePiece
-stay n l = absorb takeLine logRoom 0 n l
-
-module _ (s : Taken) (held l : List ℕ) (fits : length held ≤ longestLine) where
-  -- there is room for a line's bytes
-  roomy : (a : List ℕ) → length held + length a ≤ longestLine → (n : ℕ) → n < length held + length a → logRoom n ≡ true
-  roomy a h n g = lt-ltb n longestLine (omega arith)
-
-  -- a line that does not end is held
-  pub kept : lineCount l ≡ 0 → length held + length l ≤ longestLine → takePiece (at 0 held s) l ≡ at 0 (held ++ l) s
-  unfolding takePiece
-  kept c h = feed-rest takeLine logRoom l 0 held s c (roomy l h)
-
-  -- a line that ends
-  pub ended : (a rest : List ℕ) → l ≡ a ++ (10 ∷ rest) → lineCount a ≡ 0 → length held + length a ≤ longestLine
-      → unnumbered (takePiece (at 0 held s) l) ≡ unnumbered (takePiece (stateBy (takeLine s (held ++ a)) []) rest)
-  unfolding takePiece feedBy byte
-  ended a rest e c h =
-      ap (λ (v : List ℕ). unnumbered (takePiece (at 0 held s) v)) e
-      ∙ ap unnumbered (feed-append takeLine logRoom (at 0 held s) a (10 ∷ rest))
-      ∙ ap (λ (v : State). unnumbered (feedBy takeLine logRoom v (10 ∷ rest))) (feed-rest takeLine logRoom a 0 held s c (roomy a h))
-      ∙ after-line 0 (takeLine s (held ++ a)) rest
-
-  -- a line that is too long
-  pub too-long : (a : List ℕ) (x : ℕ) (rest : List ℕ) → l ≡ a ++ (x ∷ rest) → lineCount (a ++ (x ∷ [])) ≡ 0 → length held + length a ≡ longestLine
-      → unnumbered (takePiece (at 0 held s) l) ≡ stopped 0 1
-  unfolding takePiece
-  too-long a x rest e c h =
-      let n : lineCount a + lineCount (x ∷ []) ≡ 0 = sym (count-append a (x ∷ [])) ∙ c in
-      let o : lineCount a ≡ 0 = omega arith in
-      let w : length (held ++ a) ≡ longestLine = length-append held a ∙ h in
-      ap (λ (v : List ℕ). unnumbered (takePiece (at 0 held s) v)) e
-      ∙ ap unnumbered (feed-append takeLine logRoom (at 0 held s) a (x ∷ rest))
-      ∙ ap (λ (v : State). unnumbered (feedBy takeLine logRoom v (x ∷ rest))) (feed-rest takeLine logRoom a 0 held s o (roomy a (omega arith)))
-      ∙ by-byte takeLine logRoom 0 (held ++ a) s x
-      (λ s₁ d q f. absurd (not-end d n))
-      (λ m d q f. absurd (not-end d n))
-      (λ d q f. let z : false ≡ true = sym (le-ltb (length (held ++ a)) longestLine (omega (arith, w))) ∙ q in never (cc))
-      (λ d q f. ap unnumbered (f rest))
-    where
-      not-end : eqb x 10 ≡ true → lineCount a + lineCount (x ∷ []) ≡ 0 → ⊥
-      not-end d n = let z = count-end x [] d in omega (arith, z, n)
+use Rattle.texts_pieces.specs.Pieces.{lineLength}
+use Rattle.texts_pieces.proofs.Lengths.{length-within, length-line, length-ends}
+use Rattle.listing_texts.specs.Tallies.{Tally}
+use Rattle.listing_texts.specs.Feeding.{Taken, empty, inside, whole, State, takePiece, stateBy, unnumbered}
+use Rattle.listing_texts.proofs.Unnumbered.{take-none, stay, kept, ended, too-long}
+use Rattle.listing_tally.specs.Rows.{Tallied, tallyIn, takenBy, takenIn, andThen}
+use Rattle.listing_tally.specs.Standings.{Standing, standsAt, stop, endTaken}
+use Rattle.listing_tally.specs.declared.Phase.{Phase}
+use Rattle.listing_tally.specs.declared.Phase.the-variants.{Empty, Inside, Whole, Stopped}
+use Rattle.listing_tally.specs.declared.Progress.{Progress}
+use Rattle.listing_tally.proofs.Answers.{rest-put}
+use Rattle.listing_tally.proofs.Phases.{end-law}
+use Rattle.listing.specs.Listers.{stateIn, isStopped, Turnable, Turned, turnAfter}
 
 -- a text that is not refused is somewhere
 going : (phase : Phase) (t : Tally) → isStopped phase ≡ false → (s : Taken) × (takenBy phase t ≡ to s)
@@ -150,8 +73,8 @@ module _ (bytes : List ℕ) (pos : ℕ) (line : List ℕ) (held : ℕ) (phase : 
   left-long = length-drop pos bytes
 
   -- the line is too long
-  pub turn-long : longestLine < held + n → (r : Turn) → r ≡ record { at = length bytes; held = 0; phase = Stopped 1; reads = reads; extents = extents } → Turned bytes pos before r line stack counts
-  turn-long h r e =
+  turn-long : longestLine < held + n → Turned bytes pos before (record { at = length bytes; line = line; held = 0; phase = Stopped 1; reads = reads; extents = extents }) stack counts
+  turn-long h =
       let l : List ℕ = drop pos bytes in
       let j : ℕ = longestLine - held in
       let m : suc j ≡ n = omega (arith, counted, g .fits) in
@@ -163,79 +86,119 @@ module _ (bytes : List ℕ) (pos : ℕ) (line : List ℕ) (held : ℕ) (phase : 
       let stop : unnumbered (takePiece before l) ≡ stopped 0 1 =
       ap (λ (v : State). unnumbered (takePiece v l)) before-is
       ∙ too-long (here .0) (take held line) l (omega (arith, held-long, g .fits)) (take j l) (getD l j 0) (drop (suc j) l) whole-is ends wide in
-      let q : Turned bytes pos before (record { at = length bytes; held = 0; phase = Stopped 1; reads = reads; extents = extents }) line stack counts = record {
+      record {
         forward = g .more;
         inside = omega arith;
+        wide = g .wide;
         fits = omega arith;
         tally = g .tally;
         goes = λ z. absurd (omega (arith, z));
         same = stop ∙ sym (ap unnumbered (stay 1 (drop (length bytes) bytes)));
-      } in
-      subst (λ (v : Turn). Turned bytes pos before v line stack counts) (sym e) q
+      }
 
-  -- the piece ends before the line does
-  pub turn-kept : held + n ≤ longestLine → pos + n ≡ length bytes → (line′ : List ℕ) → take (held + n) line′ ≡ take held line ++ take n (drop pos bytes)
-      → (r : Turn) → r ≡ record { at = pos + n; held = held + n; phase = phase; reads = reads; extents = extents } → Turned bytes pos before r line′ stack counts
-  turn-kept h w line′ k r e =
-      let l : List ℕ = drop pos bytes in
-      let all : take n l ≡ l = take-all n l (omega (arith, left-long)) in
-      let c : lineCount l ≡ 0 = ap lineCount (sym all) ∙ no-end in
-      let none : drop (pos + n) bytes ≡ [] = gone bytes (pos + n) (omega arith) in
-      let fed : takePiece before l ≡ at 0 (take held line ++ l) (here .0) =
-      ap (λ (v : State). takePiece v l) before-is ∙ kept (here .0) (take held line) l (omega (arith, held-long, g .fits)) c (omega (arith, held-long, left-long)) in
-      let after : stateIn phase reads extents stack counts (take (held + n) line′) ≡ at 0 (take held line ++ l) (here .0) =
-      ap (λ (a : Answer Taken). stateBy a (take (held + n) line′)) (here .1) ∙ ap (λ (v : List ℕ). at 0 v (here .0)) (k ∙ ap (λ (v : List ℕ). take held line ++ v) all) in
-      let q : Turned bytes pos before (record { at = pos + n; held = held + n; phase = phase; reads = reads; extents = extents }) line′ stack counts = record {
-        forward = omega (arith, g .more);
-        inside = omega arith;
-        fits = h;
-        tally = g .tally;
-        goes = λ z. g .goes;
-        same = ap unnumbered (fed ∙ sym after ∙ sym (take-none (stateIn phase reads extents stack counts (take (held + n) line′))) ∙ ap (takePiece (stateIn phase reads extents stack counts (take (held + n) line′))) (sym none));
-      } in
-      subst (λ (v : Turn). Turned bytes pos before v line′ stack counts) (sym e) q
+  -- the line's other bytes, and it is not too long
+  module _ (rest : List ℕ) (rest-is : rest ≡ take n (drop pos bytes)) (h : held + n ≤ longestLine) where
+    -- as many as were counted
+    rest-long : length rest ≡ n
+    rest-long = ap length rest-is ∙ length-take-le n (drop pos bytes) (omega (arith, counted, left-long))
 
-  module _ (h : held + n ≤ longestLine) (w : pos + n < length bytes) (p : Progress) (line′ stack′ counts′ : List ℕ)
-      (done : takenIn p stack′ counts′ ≡ andThen (takenBy phase (tallyIn reads extents stack counts)) (take held line ++ take n (drop pos bytes)))
-      (tally : Tallied (p .reads) (p .extents) stack′ counts′) where
-    -- the line and the bytes after it
-    rest-is : drop pos bytes ≡ take n (drop pos bytes) ++ (10 ∷ drop (suc (pos + n)) bytes)
-    rest-is =
-        sym (take-append-drop n (drop pos bytes))
-        ∙ ap (λ (v : List ℕ). take n (drop pos bytes) ++ v) (drop-drop n pos bytes ∙ length-ends bytes pos (longestLine + 1 - held) n (omega (arith, g .more)) is (omega arith) w)
-
-    -- the line is taken
-    line-done : unnumbered (takePiece before (drop pos bytes)) ≡ unnumbered (takePiece (stateBy (takenIn p stack′ counts′) []) (drop (suc (pos + n)) bytes))
-    line-done =
-        ap (λ (v : State). unnumbered (takePiece v (drop pos bytes))) before-is
-        ∙ ended (here .0) (take held line) (drop pos bytes) (omega (arith, held-long, g .fits)) (take n (drop pos bytes)) (drop (suc (pos + n)) bytes) rest-is no-end (omega (arith, held-long, length-take-le n (drop pos bytes) (omega (arith, left-long))))
-        ∙ ap (λ (a : Answer Taken). unnumbered (takePiece (stateBy a []) (drop (suc (pos + n)) bytes))) (sym (done ∙ ap (λ (a : Answer Taken). andThen a (take held line ++ take n (drop pos bytes))) (here .1)))
-
-    -- and refused
-    pub turn-stopped : isStopped (p .phase) ≡ true → (r : Turn) → r ≡ record { at = length bytes; held = 0; phase = p .phase; reads = p .reads; extents = p .extents } → Turned bytes pos before r line′ stack′ counts′
-    turn-stopped z r e =
-        let s = gone-stop (p .phase) (tallyIn (p .reads) (p .extents) stack′ counts′) z in
-        let f : (l : List ℕ) → takePiece (stateBy (takenIn p stack′ counts′) []) l ≡ stopped 0 (s .0) = λ l. ap (λ (a : Answer Taken). takePiece (stateBy a []) l) (s .1) ∙ stay (s .0) l in
-        let q : Turned bytes pos before (record { at = length bytes; held = 0; phase = p .phase; reads = p .reads; extents = p .extents }) line′ stack′ counts′ = record {
-          forward = g .more;
+    -- the piece ends before the line does
+    pub turn-kept : pos + n ≡ length bytes → (line′ : List ℕ) → length line′ ≡ length line → line′ ≡ placed line held rest
+        → Turned bytes pos before (record { at = pos + n; line = line′; held = held + n; phase = phase; reads = reads; extents = extents }) stack counts
+    turn-kept w line′ a e =
+        let l : List ℕ = drop pos bytes in
+        let all : take n l ≡ l = take-all n l (omega (arith, left-long)) in
+        let c : lineCount l ≡ 0 = ap lineCount (sym all) ∙ no-end in
+        let none : drop (pos + n) bytes ≡ [] = gone bytes (pos + n) (omega arith) in
+        let k : take (held + n) line′ ≡ take held line ++ l =
+        ap (λ (j : ℕ). take (held + j) line′) (sym rest-long) ∙ rest-put line held rest (omega (arith, rest-long, g .wide)) line′ e ∙ ap (λ (v : List ℕ). take held line ++ v) (rest-is ∙ all) in
+        let fed : takePiece before l ≡ at 0 (take held line ++ l) (here .0) =
+        ap (λ (v : State). takePiece v l) before-is ∙ kept (here .0) (take held line) l (omega (arith, held-long, g .fits)) c (omega (arith, held-long, left-long)) in
+        let after : stateIn phase reads extents stack counts (take (held + n) line′) ≡ at 0 (take held line ++ l) (here .0) =
+        ap (λ (a : Answer Taken). stateBy a (take (held + n) line′)) (here .1) ∙ ap (λ (v : List ℕ). at 0 v (here .0)) k in
+        record {
+          forward = omega (arith, g .more);
           inside = omega arith;
-          fits = omega arith;
-          tally = tally;
-          goes = λ y. absurd (omega (arith, y));
-          same = line-done ∙ ap unnumbered (f (drop (suc (pos + n)) bytes) ∙ sym (f (drop (length bytes) bytes)));
-        } in
-        subst (λ (v : Turn). Turned bytes pos before v line′ stack′ counts′) (sym e) q
+          wide = a ∙ g .wide;
+          fits = h;
+          tally = g .tally;
+          goes = λ z. g .goes;
+          same = ap unnumbered (fed ∙ sym after ∙ sym (take-none (stateIn phase reads extents stack counts (take (held + n) line′))) ∙ ap (takePiece (stateIn phase reads extents stack counts (take (held + n) line′))) (sym none));
+        }
 
-    -- and the text goes on
-    pub turn-ended : isStopped (p .phase) ≡ false → (r : Turn) → r ≡ record { at = pos + n + 1; held = 0; phase = p .phase; reads = p .reads; extents = p .extents } → Turned bytes pos before r line′ stack′ counts′
-    turn-ended z r e =
-        let i : suc (pos + n) ≡ pos + n + 1 = omega arith in
-        let q : Turned bytes pos before (record { at = pos + n + 1; held = 0; phase = p .phase; reads = p .reads; extents = p .extents }) line′ stack′ counts′ = record {
-          forward = omega arith;
-          inside = omega arith;
-          fits = omega arith;
-          tally = tally;
-          goes = λ y. z;
-          same = line-done ∙ ap (λ (k : ℕ). unnumbered (takePiece (stateBy (takenIn p stack′ counts′) []) (drop k bytes))) i;
-        } in
-        subst (λ (v : Turn). Turned bytes pos before v line′ stack′ counts′) (sym e) q
+    -- the line ends in the piece, and is taken
+    module _ (w : pos + n < length bytes) (p : Progress) (stack′ counts′ : List ℕ) (e : standsAt p stack′ counts′ ≡ endTaken reads extents stack counts phase line held rest) where
+      -- what it does to the text, and the rows hold a tally
+      line-taken :
+          (takenIn p stack′ counts′ ≡ andThen (takenBy phase (tallyIn reads extents stack counts)) (take held line ++ rest))
+          × Tallied (p .reads) (p .extents) stack′ counts′
+      line-taken = end-law reads extents stack counts (g .tally) phase line held rest (omega (arith, rest-long)) (standsAt p stack′ counts′) e
+
+      -- the line and the bytes after it
+      all-is : drop pos bytes ≡ rest ++ (10 ∷ drop (suc (pos + n)) bytes)
+      all-is =
+          sym (take-append-drop n (drop pos bytes))
+          ∙ ap (λ (v : List ℕ). take n (drop pos bytes) ++ v) (drop-drop n pos bytes ∙ length-ends bytes pos (longestLine + 1 - held) n (omega (arith, g .more)) is (omega arith) w)
+          ∙ ap (λ (v : List ℕ). v ++ (10 ∷ drop (suc (pos + n)) bytes)) (sym rest-is)
+
+      -- what is left to do after it
+      line-done : unnumbered (takePiece before (drop pos bytes)) ≡ unnumbered (takePiece (stateBy (takenIn p stack′ counts′) []) (drop (suc (pos + n)) bytes))
+      line-done =
+          ap (λ (v : State). unnumbered (takePiece v (drop pos bytes))) before-is
+          ∙ ended (here .0) (take held line) (drop pos bytes) (omega (arith, held-long, g .fits)) rest (drop (suc (pos + n)) bytes) all-is (ap lineCount rest-is ∙ no-end) (omega (arith, held-long, rest-long))
+          ∙ ap (λ (a : Answer Taken). unnumbered (takePiece (stateBy a []) (drop (suc (pos + n)) bytes))) (sym (line-taken .0 ∙ ap (λ (a : Answer Taken). andThen a (take held line ++ rest)) (here .1)))
+
+      -- the text is refused
+      turn-stopped : isStopped (p .phase) ≡ true → Turned bytes pos before (record { at = length bytes; line = line; held = 0; phase = p .phase; reads = p .reads; extents = p .extents }) stack′ counts′
+      turn-stopped z =
+          let s = gone-stop (p .phase) (tallyIn (p .reads) (p .extents) stack′ counts′) z in
+          let f : (l : List ℕ) → takePiece (stateBy (takenIn p stack′ counts′) []) l ≡ stopped 0 (s .0) = λ l. ap (λ (a : Answer Taken). takePiece (stateBy a []) l) (s .1) ∙ stay (s .0) l in
+          record {
+            forward = g .more;
+            inside = omega arith;
+            wide = g .wide;
+            fits = omega arith;
+            tally = line-taken .1;
+            goes = λ y. absurd (omega (arith, y));
+            same = line-done ∙ ap unnumbered (f (drop (suc (pos + n)) bytes) ∙ sym (f (drop (length bytes) bytes)));
+          }
+
+      -- it goes on
+      turn-ended : isStopped (p .phase) ≡ false → Turned bytes pos before (record { at = pos + n + 1; line = line; held = 0; phase = p .phase; reads = p .reads; extents = p .extents }) stack′ counts′
+      turn-ended z =
+          let i : suc (pos + n) ≡ pos + n + 1 = omega arith in
+          record {
+            forward = omega arith;
+            inside = omega arith;
+            wide = g .wide;
+            fits = omega arith;
+            tally = line-taken .1;
+            goes = λ y. z;
+            same = line-done ∙ ap (λ (k : ℕ). unnumbered (takePiece (stateBy (takenIn p stack′ counts′) []) (drop k bytes))) i;
+          }
+
+      -- either
+      turn-line : Turned bytes pos before (turnAfter line p (pos + n + 1) (length bytes)) stack′ counts′
+      turn-line = by-test (isStopped (p .phase)) (λ z. rw z (turn-stopped z)) (λ z. rw z (turn-ended z))
+
+  -- what a standing leaves to do
+  abbrev Leaves : Standing → Type 0
+  Leaves s = Turned bytes pos before (turnAfter line (s .progress) (pos + n + 1) (length bytes)) (s .stack) (s .counts)
+
+  -- the line ends in the piece, or is too long
+  pub turn-over : (rest : List ℕ) → rest ≡ take n (drop pos bytes) → (pos + n ≡ length bytes → longestLine < held + n)
+      → (p : Progress) (stack′ counts′ : List ℕ) → standsAt p stack′ counts′ ≡ endTaken reads extents stack counts phase line held rest
+      → Turned bytes pos before (turnAfter line p (pos + n + 1) (length bytes)) stack′ counts′
+  unfolding endTaken
+  turn-over rest r over p stack′ counts′ e =
+      let k : length rest ≡ n = ap length r ∙ length-take-le n (drop pos bytes) (omega (arith, counted, left-long)) in
+      by-test (leb (held + length rest) longestLine)
+      (λ z. let h : held + n ≤ longestLine = omega (arith, leb-true (held + length rest) longestLine z, k) in
+      turn-line rest r h (before-end h over) p stack′ counts′ e)
+      (λ z. let q : standsAt p stack′ counts′ ≡ standsAt (stop 1 reads extents) stack counts = e ∙ rw z in
+      subst Leaves (sym q) (turn-long (omega (arith, leb-false (held + length rest) longestLine z, k))))
+    where
+      -- a line that fits and ends in the piece
+      before-end : held + n ≤ longestLine → (pos + n ≡ length bytes → longestLine < held + n) → pos + n < length bytes
+      before-end h f = by-test (ltb (pos + n) (length bytes)) (λ z. ltb-true (pos + n) (length bytes) z)
+          (λ z. absurd (let q = f (omega (arith, ltb-false (pos + n) (length bytes) z, counted)) in omega (arith, q)))

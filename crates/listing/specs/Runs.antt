@@ -2,8 +2,8 @@
 use mathlib.Core.Path.{_≡_}
 use Prim.Native.Nat.{ℕ}
 use mathlib.Core.List.{List, [], _∷_, _++_}
-use Rattle.listing.specs.Feeding.{takePiece}
-use Rattle.listing.specs.Listers.{stateOf, unnumbered}
+use Rattle.listing_texts.specs.Feeding.{takePiece, unnumbered}
+use Rattle.listing.specs.Listers.{stateOf}
 use Rattle.listing.specs.declared.Lister.{Lister}
 
 -- pieces end to end

@@ -1,9 +1,4 @@
 // The listing of a log text: its reads, its cold reads, and for every size from 1 to the number of its extents the misses.
-mod checks;
-mod lines;
-mod printing;
-mod rows;
-mod taking;
 mod turning;
 
 ghost use mathlib.Core.Path.{_≡_};
@@ -12,36 +7,17 @@ ghost use Prim.Native.Nat.{_≤_};
 ghost use mathlib.Core.Bool.{false};
 ghost use lib.ListN.{take};
 ghost use Rattle.texts.specs.Lines.{at};
-ghost use Rattle.listing.specs.Feeding.{empty, takePiece, printedAt, verdictAt};
-ghost use Rattle.listing.specs.Listers.{soundLister, stateOf, takesMore, unnumbered};
-ghost use Rattle.listing.specs.Pages.{pageBytes};
-
-// The bytes of a page.
-pub const PAGE_BYTES: usize = 8192;
-
-// A page of output: its first `len` bytes are the text.
-pub struct Page {
-    pub bytes: [u8; PAGE_BYTES],
-    pub len: usize,
-}
-
-// How far a text is: before its first line, inside the trace, at its end, or refused with this number.
-pub enum Phase {
-    Empty,
-    Inside,
-    Whole,
-    Stopped(u32),
-}
-
-// What the end of the text would give: a listing, or the refusal's number.
-pub enum Verdict {
-    Listed,
-    Refused(u32),
-}
+ghost use Rattle.listing_texts.specs.Feeding.{empty, takePiece, unnumbered, printedAt, verdictAt};
+ghost use Rattle.listing_texts.specs.Pages.{pageBytes};
+ghost use Rattle.listing.specs.Listers.{soundLister, stateOf, takesMore};
+pub use listing_pages::PAGE_BYTES;
+pub use listing_pages::Page;
+pub use listing_tally::Phase;
+pub use listing_texts::Verdict;
 
 // A log text taken so far: what is held of a line that has not ended, how far the text is, and the tally of its reads.
 pub struct Lister {
-    pub line: [u8; 19],
+    pub line: [u8; listing_tally::LONGEST],
     pub held: usize,
     pub phase: Phase,
     pub reads: u32,
@@ -56,7 +32,7 @@ impl Lister {
         ensures { λ r. ⌜ stateOf r ≡ at 0 [] empty ⌝ }
     {
         Lister {
-            line: [0; 19],
+            line: [0; listing_tally::LONGEST],
             held: 0,
             phase: Phase::Empty,
             reads: 0,
@@ -70,7 +46,7 @@ impl Lister {
     pub fn sound(self) -> bool
         ensures { λ r. ⌜ r ≡ soundLister self ⌝ }
     {
-        if turning::LONGEST < self.held {
+        if listing_tally::LONGEST < self.held {
             return false;
         }
         let v = self.extents;
@@ -85,7 +61,7 @@ impl Lister {
             return false;
         }
         let counts = self.counts;
-        v as u64 + checks::total(&counts[..v]) == self.reads as u64
+        v as u64 + reuse_rows::total(&counts[..v]) == self.reads as u64
     }
 
     // Whether the lister is sound and its text not refused.
@@ -119,7 +95,7 @@ impl Lister {
             let t = turning::advance(
                 bytes,
                 at,
-                &mut line,
+                line,
                 held,
                 phase,
                 reads,
@@ -128,6 +104,7 @@ impl Lister {
                 &mut counts,
             );
             at = t.at;
+            line = t.line;
             held = t.held;
             phase = t.phase;
             reads = t.reads;
@@ -171,11 +148,11 @@ impl Lister {
     {
         let verdict = self.verdict();
         match verdict {
-            Verdict::Refused(n) => printing::refused_page(n),
+            Verdict::Refused(n) => listing_pages::refused_page(n),
             Verdict::Listed => {
                 let v = self.extents;
                 let counts = self.counts;
-                printing::listing_page(self.reads, &counts[..v])
+                listing_pages::listing_page(self.reads, &counts[..v])
             }
         }
     }

@@ -1,20 +1,15 @@
 // A piece of a log text, taken line by line.
-use crate::Phase;
-use crate::rows;
-use crate::taking;
-use crate::taking::Progress;
+use listing_tally::LONGEST;
+use listing_tally::Phase;
+use listing_tally::Progress;
 ghost use mathlib.Core.Path.{_≡_};
-ghost use mathlib.Core.List.{_++_};
-ghost use Prim.Native.Nat.{_-_};
-ghost use lib.ListN.{take, drop};
-ghost use Rattle.listing.specs.Listers.{Tallied, tallyIn, takenBy, takenIn, andThen, isStopped, stateIn, Ending, Turnable, Turned};
-
-// The bytes of the longest line.
-pub const LONGEST: usize = 19;
+ghost use lib.ListN.{take};
+ghost use Rattle.listing.specs.Listers.{isStopped, stateIn, Turnable, Turned, turnAfter};
 
 // How far a piece is taken: the position, the bytes held of a line that has not ended, and the text so far.
 pub struct Turn {
     pub at: usize,
+    pub line: [u8; LONGEST],
     pub held: usize,
     pub phase: Phase,
     pub reads: u32,
@@ -33,49 +28,30 @@ pub fn stopped(phase: Phase) -> bool
     }
 }
 
-// How far a piece is taken, by its numbers.
-fn turned(at: usize, held: usize, phase: Phase, reads: u32, extents: usize) -> Turn
-    ensures { λ r. ⌜ r ≡ record { at = at; held = held; phase = phase; reads = reads; extents = extents } ⌝ }
+// The turn after a line: on to the next one, or past the whole piece where the text is refused.
+fn turned(line: [u8; LONGEST], p: Progress, next: usize, len: usize) -> Turn
+    ensures { λ r. ⌜ r ≡ turnAfter line p next len ⌝ }
 {
+    let phase = p.phase;
+    let mut at = next;
+    if stopped(phase) {
+        at = len;
+    }
     Turn {
         at,
-        held,
+        line,
+        held: 0,
         phase,
-        reads,
-        extents,
+        reads: p.reads,
+        extents: p.extents,
     }
-}
-
-// A line ends: what is held of it, and the bytes of the piece from `at` to `end`.
-fn end_line(
-    bytes: &[u8],
-    at: usize,
-    end: usize,
-    line: &mut [u8],
-    held: usize,
-    phase: Phase,
-    reads: u32,
-    extents: usize,
-    stack: &mut [u32],
-    counts: &mut [u32],
-) -> Progress
-    requires { ⌜ Ending (now bytes) at end (now line) held reads extents (now stack) (now counts) ⌝ }
-    ensures is { λ r. ⌜ takenIn r (now (stack .exit)) (now (counts .exit)) ≡ andThen (takenBy phase (tallyIn reads extents (now (stack .entry)) (now (counts .entry)))) (take held (now (line .entry)) ++ take (end - at) (drop at (now (bytes .entry)))) ⌝ }
-    ensures kept { λ r. ⌜ Tallied (r .reads) (r .extents) (now (stack .exit)) (now (counts .exit)) ⌝ }
-{
-    if held == 0 {
-        return taking::take_line(&bytes[at..end], phase, reads, extents, stack, counts);
-    }
-    rows::put(line, held, &bytes[at..end]);
-    let n = held + (end - at);
-    taking::take_line(&line[..n], phase, reads, extents, stack, counts)
 }
 
 // The piece from `at` on is taken to the end of the next line, or to its own end.
 pub fn advance(
     bytes: &[u8],
     at: usize,
-    line: &mut [u8],
+    line: [u8; LONGEST],
     held: usize,
     phase: Phase,
     reads: u32,
@@ -83,33 +59,27 @@ pub fn advance(
     stack: &mut [u32],
     counts: &mut [u32],
 ) -> Turn
-    requires { ⌜ Turnable (now bytes) at (now line) held phase reads extents (now stack) (now counts) ⌝ }
-    ensures { λ r. ⌜ Turned (now (bytes .entry)) at (stateIn phase reads extents (now (stack .entry)) (now (counts .entry)) (take held (now (line .entry)))) r (now (line .exit)) (now (stack .exit)) (now (counts .exit)) ⌝ }
+    requires { ⌜ Turnable (now bytes) at line held phase reads extents (now stack) (now counts) ⌝ }
+    ensures { λ r. ⌜ Turned (now (bytes .entry)) at (stateIn phase reads extents (now (stack .entry)) (now (counts .entry)) (take held line)) r (now (stack .exit)) (now (counts .exit)) ⌝ }
 {
-    let n = rows::line_length(bytes, at, LONGEST + 1 - held);
+    let n = texts_pieces::line_length(bytes, at, LONGEST + 1 - held);
     let end = at + n;
-    if LONGEST < held + n {
-        return turned(bytes.len(), 0, Phase::Stopped(1), reads, extents);
-    }
+    let all = held + n;
     if end == bytes.len() {
-        rows::put(line, held, &bytes[at..end]);
-        return turned(end, held + n, phase, reads, extents);
+        if all <= LONGEST {
+            let mut kept = line;
+            reuse_rows::put_bytes(&mut kept, held, &bytes[at..end]);
+            return Turn {
+                at: end,
+                line: kept,
+                held: all,
+                phase,
+                reads,
+                extents,
+            };
+        }
     }
-    let p = end_line(
-        bytes,
-        at,
-        end,
-        line,
-        held,
-        phase,
-        reads,
-        extents,
-        stack,
-        counts,
-    );
-    let then = p.phase;
-    if stopped(then) {
-        return turned(bytes.len(), 0, then, p.reads, p.extents);
-    }
-    turned(end + 1, 0, then, p.reads, p.extents)
+    let rest = &bytes[at..end];
+    let p = listing_tally::end_line(line, held, rest, phase, reads, extents, stack, counts);
+    turned(line, p, end + 1, bytes.len())
 }

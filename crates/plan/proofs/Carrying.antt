@@ -2,10 +2,10 @@
 use mathlib.Core.Path.{_≡_, refl, sym, ap, _∙_}
 use Prim.Native.Nat.{ℕ, _+_, _*_, _≤_, _<_}
 use native.Mathlib.Omega.{arith}
-use mathlib.Core.List.{List, [], _∷_, _++_}
-use mathlib.Core.Bool.{_&&_, and-false}
+use mathlib.Core.List.{List, [], _++_}
+use mathlib.Core.Bool.{and-false}
 use lib.ListN.{length, take, drop, replicate}
-use lib.Seq.{take-all}
+use lib.Seq.{take-all, length-take-le}
 use borrow.Author.Tests.{eq-eqb, ne-eqb, le-leb, lt-leb}
 use Rattle.reuse.specs.Limits.{maxReads, maxExtents}
 use Rattle.reuse.specs.Lists.{firsts}
@@ -14,17 +14,15 @@ use Rattle.reuse.specs.Traces.{Within}
 use Rattle.reuse.proofs.Words.{length-summary}
 use Rattle.summary_calls.specs.declared.Written.{Written}
 use Rattle.summary_calls.specs.declared.Written.the-variants.{Words, Refused}
-use Rattle.texts.specs.Digits.{tooLong}
 use Rattle.texts.specs.Lines.{Read, got, refused}
-use Rattle.texts.specs.Limits.{maxJoins}
 use Rattle.texts.specs.Plans.{Plan, textOf, reads, depth}
 use Rattle.texts.specs.PlanTexts.{planOf}
 use Rattle.texts.proofs.Tests.{never}
 use Rattle.texts.proofs.PlanSound.{sound}
-use Rattle.plan.specs.declared.PlanRead.the-variants as planRead
+use Rattle.plan_reader.specs.declared.PlanRead.the-variants as planRead
 use Rattle.plan.specs.declared.evaluation.Done.{Done}
-use Rattle.plan.specs.Answers.{answerOf}
-use Rattle.plan.specs.Calls.{levelWords, workWords, cleared, fronted, Ran, declined, carriedOut, planCall, runBy, runCall, Accepted}
+use Rattle.plan_reader.specs.Answers.{answerOf}
+use Rattle.plan.specs.Calls.{levelWords, workWords, cleared, fronted, Ran, declined, carriedOut, planCall, runBy, runCall}
 use Rattle.plan.specs.Evaluation.{span, Stands, Ready, Roomy, Evaluated}
 
 -- what a call answers and leaves, by its definition
@@ -34,6 +32,11 @@ Gives r answer work out = (answer ≡ r .answer) × ((work ≡ r .work) × (out 
 -- of a definition that is known
 pub gives : (r : Ran) (answer : Written) (work out : List ℕ) → r ≡ record { answer = answer; work = work; out = out } → Gives r answer work out
 gives r answer work out e = (sym (ap (λ (v : Ran). v .answer) e), (sym (ap (λ (v : Ran). v .work) e), sym (ap (λ (v : Ran). v .out) e)))
+
+-- words of which the first n became 0
+pub cleared-front : (n : ℕ) (w y : List ℕ) → n ≤ length w → y ≡ replicate (length (take n w)) 0 → y ++ drop n w ≡ cleared n w
+unfolding cleared
+cleared-front n w y h e = ap (λ (v : List ℕ). v ++ drop n w) (e ∙ ap (λ (k : ℕ). replicate k 0) (length-take-le n w h))
 
 module _ (text log work out : List ℕ) where
   -- the text is refused

@@ -1,6 +1,6 @@
 -- Evaluation, step by step: a seg, a join's first part, each other part joined to those before it, and the end of the join.
 use mathlib.Core.Path.{_≡_, refl, sym, ap, subst, _∙_}
-use Prim.Native.Nat.{ℕ, suc, _+_, _-_, _*_, _≤_, _<_, max}
+use Prim.Native.Nat.{ℕ, suc, _+_, _-_, _*_, _≤_, _<_}
 use native.Mathlib.Omega.{arith}
 use mathlib.Core.List.{List, [], _∷_, _++_}
 use lib.ListN.{length, take, drop, length-append, length-drop, take-append-drop}
@@ -8,7 +8,6 @@ use lib.Seq.{take-add, drop-drop, length-take-le}
 use native.Mathlib.Numerals.{add-one}
 use borrow.Author.Tests.{le-leb}
 use borrow.Rule.Slice.PartMut.{midOf, putMid}
-use Rattle.reuse.specs.Limits.{maxExtents}
 use Rattle.reuse.specs.Lists.{firsts}
 use Rattle.reuse.specs.Summary.{summaryOf}
 use Rattle.reuse.specs.Traces.{Within}
@@ -26,7 +25,7 @@ use Rattle.plan.specs.Calls.{summaryWords, levelWords, fronted}
 use Rattle.plan.specs.Evaluation.{countOf, span, Stands, Ready, Roomy, Evaluated, Holdable}
 use Rattle.plan.specs.declared.evaluation.Done.{Done}
 use Rattle.plan.proofs.Levels.{put-there, put-after, back-before, back-kept, back-length, front-there, front-again}
-use Rattle.plan.proofs.Standing.{Opened, Pending, NextPart, next-part, no-part}
+use Rattle.plan.proofs.Standing.{Opened, Pending, NextPart, no-part}
 
 -- words written where there is room
 pub wrote-front : (w buffer : List ℕ) → length w ≤ length buffer → (wrote w buffer .buffer ≡ fronted w buffer) × (countOf (wrote w buffer .answer) ≡ length w)

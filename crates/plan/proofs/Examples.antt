@@ -1,42 +1,19 @@
--- Worked examples: what `read` and `run` answer, computed from the definitions.
-use mathlib.Core.Path.{_≡_, refl, ap, _∙_}
+-- Worked examples: what `run` answers, computed from the definitions.
+use mathlib.Core.Path.{_≡_, refl, _∙_}
 use Prim.Native.Nat.{ℕ, _≤_}
 use native.Mathlib.Omega.{arith}
 use mathlib.Core.List.{List, [], _∷_}
 use lib.ListN.{length}
 use Rattle.reuse.specs.Lists.{firsts, remove}
-use Rattle.reuse.specs.Summary.{summaryOf}
 use Rattle.reuse.specs.Traces.{Within}
 use Rattle.reuse.proofs.Examples.{seven-summary}
 use Rattle.reuse.proofs.Monoid.{empty-summary}
 use Rattle.summary_calls.specs.declared.Written.the-variants.{Words}
 use Rattle.texts.specs.Bytes.{bytes}
 use Rattle.texts.specs.Plans.{seg, join, last, depth, partsDepth, reads, partsReads}
-use Rattle.texts.specs.PlanTexts.{planOf}
-use Rattle.texts.proofs.Examples.{plans-read, plans-refused-one}
-use Rattle.plan.specs.declared.PlanRead.the-variants.{Plan, Refused}
-use Rattle.plan.specs.Answers.{answerOf}
+use Rattle.texts.proofs.Examples.{plans-read}
 use Rattle.plan.specs.Calls.{cleared, fronted, runCall}
 use Rattle.plan.proofs.Carrying.{carried}
-
--- the paper's plan covers seven reads and opens two joins together
-pub paper-read : answerOf (planOf (bytes "(join\n (seg 4)\n (join\n  (seg 1)\n  (seg 2)))\n")) ≡ Plan 7 2
-unfolding reads partsReads depth partsDepth
-paper-read = ap answerOf (plans-read .0)
-
--- a lone seg has depth 0
-pub seg-read : answerOf (planOf (bytes "(seg 7)\n")) ≡ Plan 7 0
-unfolding reads partsReads depth partsDepth
-seg-read = ap answerOf (plans-read .1)
-
--- the plan of an empty log
-pub empty-read : answerOf (planOf (bytes "(seg 0)\n")) ≡ Plan 0 0
-unfolding reads partsReads depth partsDepth
-empty-read = ap answerOf (plans-read .2)
-
--- a refusal is its number alone
-pub refused-read : answerOf (planOf (bytes "(seg 07)\n")) ≡ Refused 1
-refused-read = ap answerOf (plans-refused-one .0)
 
 -- the log 7 3 7 9 3 3 9
 abbrev seven : List ℕ

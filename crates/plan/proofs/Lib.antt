@@ -1,6 +1,3 @@
-mod Places
-mod Ways
-mod Whole
 mod Examples
 mod Levels
 mod Standing

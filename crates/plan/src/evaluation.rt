@@ -1,10 +1,8 @@
 // Carrying a plan out: a seg is summarized, a join's parts are joined from the inside out, left to right.
-use crate::lines;
-use crate::lines::Line;
+use plan_lines::Line;
 use summary::Written;
 ghost use mathlib.Core.Path.{_≡_};
-ghost use Prim.Native.Nat.{_≤_};
-ghost use lib.ListN.{length, take, drop};
+ghost use lib.ListN.{take, drop};
 ghost use Rattle.summary_calls.specs.Calls.{joinCall};
 ghost use Rattle.plan.specs.Calls.{levelWords};
 ghost use Rattle.plan.specs.Evaluation.{countOf, Ready, Roomy, Evaluates, Holdable};
@@ -71,7 +69,7 @@ pub fn evaluate(
     requires { ⌜ Ready (now s) at under (now log) from left × Roomy (now s) at under (now log) (now work) (now out) left ⌝ }
     ensures { λ r. ⌜ Evaluates (now (s .entry)) at under (now (log .entry)) from left (now (work .entry)) (now (out .entry)) r (now (work .exit)) (now (out .exit)) ⌝ }
 {
-    let l = lines::line_at(s, at, under);
+    let l = plan_lines::line_at(s, at, under);
     match l {
         Line::Bad => past(at, 0, from, 0),
         Line::Seg {

@@ -1,47 +1,12 @@
 // Joining plans: a text says how a log is cut and grouped, and the plan is carried out in lent memory.
 mod evaluation;
-mod lines;
-mod reader;
-mod rows;
 
+pub use plan_reader::MAX_BYTES;
+pub use plan_reader::PlanRead;
+pub use plan_reader::read;
 use summary::Written;
 ghost use mathlib.Core.Path.{_≡_};
-ghost use Rattle.texts.specs.PlanTexts.{planOf};
-ghost use Rattle.plan.specs.Answers.{answerOf};
 ghost use Rattle.plan.specs.Calls.{runCall, Accepted};
-
-// The most bytes of a plan text.
-pub const MAX_BYTES: usize = 65536;
-
-// What a plan text is: the reads that its segs cover and its depth, or the refusal's number.
-pub enum PlanRead {
-    Plan { reads: u64, depth: usize },
-    Refused(u32),
-}
-
-// The plan that a text is.
-pub fn read(text: &[u8]) -> PlanRead
-    ensures { λ r. ⌜ r ≡ answerOf (planOf (now (text .entry))) ⌝ }
-{
-    if MAX_BYTES < text.len() {
-        return PlanRead::Refused(4);
-    }
-    let f = reader::form(text, 0, 0, 0, 0);
-    match f {
-        reader::Found::Refused(n) => PlanRead::Refused(n),
-        reader::Found::Read {
-            reads,
-            depth,
-            closes,
-            next,
-        } => {
-            if next < text.len() {
-                return PlanRead::Refused(1);
-            }
-            PlanRead::Plan { reads, depth }
-        }
-    }
-}
 
 // A plan text carried out on a log: the words of the log's summary at the front of `out`, its parts joined as the plan says.
 pub fn run(text: &[u8], log: &[u32], work: &mut [u32], out: &mut [u32]) -> Written
@@ -83,6 +48,6 @@ fn carry_out(text: &[u8], log: &[u32], work: &mut [u32], out: &mut [u32], depth:
         return Written::Refused(6);
     }
     let done = evaluation::evaluate(text, 0, 0, log, 0, depth, work, out);
-    rows::clear(work, levels);
+    reuse_rows::clear(&mut work[..levels]);
     Written::Words(done.words)
 }

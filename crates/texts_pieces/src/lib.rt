@@ -1,9 +1,9 @@
-// The pieces of a line that plans and logs are read by: a run of one byte, a word, a number.
+// The pieces of a line that plans and logs are read by: a run of one byte, a word, a number, all up to the line's end.
 ghost use mathlib.Core.Path.{_≡_};
 ghost use Prim.Native.Nat.{_+_, _≤_};
 ghost use lib.ListN.{drop};
 ghost use Rattle.texts.specs.Words.{runOf, wordAt};
-ghost use Rattle.texts_pieces.specs.Pieces.{foundAt};
+ghost use Rattle.texts_pieces.specs.Pieces.{foundAt, lineLength};
 
 // How many bytes b stand in a row at `at`, counted to at most `most`; none past the end.
 pub fn run_of(s: &[u8], at: usize, b: u8, most: usize) -> usize
@@ -90,4 +90,25 @@ pub fn number_at(s: &[u8], at: usize) -> Found
         return Found::Bad;
     }
     Found::Value(v, i)
+}
+
+// How many bytes stand at `at` before the next byte 10, counted to at most `most`; none past the end.
+pub fn line_length(s: &[u8], at: usize, most: usize) -> usize
+    ensures { λ r. ⌜ r ≡ lineLength most (drop at (now (s .entry))) ⌝ }
+{
+    if s.len() < at {
+        return 0;
+    }
+    let mut len: usize = 0;
+    while len < most {
+        let i = at + len;
+        if s.len() <= i {
+            return len;
+        }
+        if s[i] == 10 {
+            return len;
+        }
+        len += 1;
+    }
+    len
 }

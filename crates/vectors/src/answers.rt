@@ -1,50 +1,70 @@
-// Answers of the calls as single words, and a log read by a session.
-use crate::words;
+// What the calls answer, against the simulated cache.
+ghost use Prim.Native.Nat.{_≤_};
+ghost use lib.ListN.{length};
 use session::Answer;
 use session::Session;
 use summary::HitShare;
 use summary::MissCount;
 use summary::ShareAnswer;
 use summary::Written;
+use watch::Heard;
+use watch::Watch;
 
-// A refusal's number as a word that no other answer has.
-pub fn refusal(n: u32) -> u32 {
-    std::num::wrapping_add_u32(2000000, n)
-}
-
-// A read's answer: 0 for cold, or the distance.
-pub fn of_read(answer: Answer) -> u32 {
+// Whether a read's answer is a distance of at most the size.
+pub fn is_within(answer: Answer, size: u32) -> bool {
     match answer {
-        Answer::Cold => 0,
+        Answer::Cold => false,
         Answer::Distance {
             distance,
             sums_read,
-        } => distance,
-        Answer::Refused(n) => refusal(n),
+        } => distance <= size,
+        Answer::Refused(_) => false,
     }
 }
 
-// The number of words written.
-pub fn of_written(answer: Written) -> u32 {
+// The watch after a session's answer; a refusal leaves it as it was.
+pub fn after(w: Watch, answer: Answer) -> Watch {
+    let heard = watch::reading_of(answer);
+    match heard {
+        Heard::Read(reading) => {
+            let change = watch::noted(w, reading);
+            change.watch
+        }
+        Heard::Refused(_) => w,
+    }
+}
+
+// The number of words of a session's summary, or 0 where it is refused.
+pub fn summarize(session: Session, out: &mut [u32]) -> usize
+    ensures { λ r. ⌜ r ≤ length (now (out .exit)) ⌝ }
+{
+    let answer = session_summary::summary(session, out);
     match answer {
-        Written::Words(n) => words::narrow(n),
-        Written::Refused(n) => refusal(n),
+        Written::Words(n) => {
+            if n <= out.len() {
+                return n;
+            }
+            0
+        }
+        Written::Refused(_) => 0,
     }
 }
 
-// How many words of the buffer the call may have written: none where it was refused.
-pub fn past(answer: u32) -> u32 {
-    if answer < 2000000 {
-        return answer;
-    }
-    0
+// The misses of a session.
+pub fn misses_of(session: Session, size: u32) -> MissCount {
+    session_summary::misses(session, size)
 }
 
-// The misses.
-pub fn of_misses(answer: MissCount) -> u32 {
+// The hit share of a session.
+pub fn share_of(session: Session, size: u32) -> ShareAnswer {
+    session_summary::share(session, size)
+}
+
+// Whether so many misses were answered.
+pub fn are_misses(answer: MissCount, misses: u32) -> bool {
     match answer {
-        MissCount::Misses(n) => n,
-        MissCount::Refused(n) => refusal(n),
+        MissCount::Misses(n) => n == misses,
+        MissCount::Refused(_) => false,
     }
 }
 
@@ -69,32 +89,18 @@ pub fn is_share(answer: ShareAnswer, hits: u32, reads: u32) -> bool {
     }
 }
 
-// A share's refusal, or 0 where it was answered.
-pub fn of_share(answer: ShareAnswer) -> u32 {
+// Whether misses are refused with this number.
+pub fn refuses_misses(answer: MissCount, refusal: u32) -> bool {
     match answer {
-        ShareAnswer::Answered(_) => 0,
-        ShareAnswer::Refused(n) => refusal(n),
+        MissCount::Misses(_) => false,
+        MissCount::Refused(n) => n == refusal,
     }
 }
 
-// The session after the reads of a log, with a word for each answer.
-pub fn read_all(session: Session, log: &[u32], out: &mut [u32]) -> Session {
-    let mut s = session;
-    for i in 0..log.len() {
-        let r = s.read(words::get(log, i));
-        let a = r.answer;
-        words::put(out, i, of_read(a));
-        s = r.session;
+// Whether a hit share is refused with this number.
+pub fn refuses_share(answer: ShareAnswer, refusal: u32) -> bool {
+    match answer {
+        ShareAnswer::Answered(_) => false,
+        ShareAnswer::Refused(n) => n == refusal,
     }
-    s
-}
-
-// The session after the reads of a log.
-pub fn session_of(log: &[u32]) -> Session {
-    let mut s = Session::new();
-    for i in 0..log.len() {
-        let r = s.read(words::get(log, i));
-        s = r.session;
-    }
-    s
 }

@@ -1,18 +1,10 @@
 // Counts of comparisons.
-const MOST: u64 = 18446744073709551615;
+use std::num::wrapping_add_u64;
 
 // How many comparisons were made, and how many of them differ.
 pub struct Count {
     pub compared: u64,
     pub differ: u64,
-}
-
-// The sum, or the largest number where it does not fit.
-fn sum(a: u64, b: u64) -> u64 {
-    if b <= MOST - a {
-        return a + b;
-    }
-    MOST
 }
 
 impl Count {
@@ -26,11 +18,9 @@ impl Count {
 
     // One comparison more.
     pub fn tally(self, same: bool) -> Self {
-        let compared = sum(self.compared, 1);
-        let mut differ = self.differ;
-        if !same {
-            differ = sum(differ, 1);
+        Count {
+            compared: wrapping_add_u64(self.compared, 1),
+            differ: wrapping_add_u64(self.differ, !same as u64),
         }
-        Count { compared, differ }
     }
 }

@@ -1,25 +1,21 @@
 // The rows that are run and not proved: what a session answers at its limits, one line a row.
+ghost use Prim.Native.Nat.{_<_};
 use libc::STDOUT_FILENO;
+use reuse::MAX_EXTENTS;
+use reuse::MAX_READS;
+use reuse::SLOTS;
 use session::Answer;
 use session::Session;
 use session::Step;
 
-// The session after n reads of one extent.
-fn repeat(session: Session, extent: u32, n: u32) -> Session {
-    let mut s = session;
-    for i in 0..n {
-        let r = s.read(extent);
-        s = r.session;
-    }
-    s
-}
-
-// The session after reads of the extents 0 to n - 1.
-fn climb(session: Session, n: u32) -> Session {
-    let mut s = session;
-    for i in 0..n {
-        let r = s.read(i);
-        s = r.session;
+// The session after so many reads that go round so many extents.
+fn after(reads: u32, extents: u32) -> Session
+    requires { ⌜ 0 < extents ⌝ }
+{
+    let mut s = Session::new();
+    for i in 0..reads {
+        let step = s.read(i % extents);
+        s = step.session;
     }
     s
 }
@@ -55,13 +51,13 @@ fn row(call: &[u8], step: Step) -> Session {
 
 // All rows.
 pub fn all() {
-    let one = repeat(Session::new(), 7, 511);
-    let moved = row(b"one extent, read 512", one.read(7));
-    row(b"one extent, read 513", moved.read(7));
-    let full = climb(Session::new(), 256);
+    let one = after(SLOTS as u32 - 1, 1);
+    let moved = row(b"one extent, read 512", one.read(0));
+    row(b"one extent, read 513", moved.read(0));
+    let full = after(MAX_EXTENTS as u32, MAX_EXTENTS as u32);
     let known = row(b"256 extents, then a known one", full.read(0));
-    row(b"256 extents, then another", known.read(256));
-    let most = repeat(Session::new(), 7, 1048575);
-    let last = row(b"read 1,048,576", most.read(7));
-    row(b"the next", last.read(7));
+    row(b"256 extents, then another", known.read(MAX_EXTENTS as u32));
+    let most = after(MAX_READS - 1, 1);
+    let last = row(b"read 1,048,576", most.read(0));
+    row(b"the next", last.read(0));
 }

@@ -1,14 +1,14 @@
 -- `plan::carry_out` meets its contract.
-use mathlib.Core.Path.{_≡_, sym, ap, subst, _∙_}
-use Prim.Native.Nat.{ℕ, _+_, _*_, _≤_}
+use mathlib.Core.Path.{_≡_, sym}
+use Prim.Native.Nat.{_*_, _≤_}
 use native.Mathlib.Omega.{arith}
 use lib.ListN.{length}
+use lib.Seq.{length-take-le}
 use Rattle.reuse.specs.Traces.{Within}
 use Rattle.reuse.specs.Lists.{firsts}
 use Rattle.reuse.proofs.Traces.{extents-exact, extents-within, extents-over}
 use Rattle.texts.proofs.PlanSound.{sound}
-use Rattle.plan.specs.Calls.{Accepted}
-use Rattle.plan.proofs.Carrying.{many-reads, many-extents, work-short, out-short, ready, roomy, run-done}
+use Rattle.plan.proofs.Carrying.{many-reads, many-extents, work-short, out-short, ready, roomy, cleared-front, run-done}
 use borrow.Author.Needs.{needs}
 use Rattle.plan.proofs.carry_out.Statement.{statement}
 use Rattle.plan.proofs.carry_out.Tie as tie
@@ -24,6 +24,10 @@ counted c = extents-exact _ _ (c .before .extents-of .ensures) (within c .extent
 -- the plan is no deeper than the limit
 shallow : (c : tie.Else2) → c .before .before .before .before .before .before .before .args .depth ≤ 8
 shallow c = let a = c .before .before .before .before .before .before .before in let s = sound _ _ (a .pre .read) in omega (arith, s .1 .deep, a .pre .deepens)
+
+-- the plan's levels stand in the words that come back
+levels-there : (c : tie.After-slice-known4) → 1540 * c .before .before .before .before .before .before .before .before .before .before .before .before .before .before .before .before .args .depth ≤ length (c .before .before .before .before .evaluate .last .1 .1 .1 .1 .1 .1 .0)
+levels-there c = omega (arith, c .before .before .before .before .evaluate .kept .1 .1 .1 .1 .1 .1 .0)
 
 cast-if1 : tie.Need-cast-if1
 cast-if1 c = search needs
@@ -57,6 +61,12 @@ evaluate-requires c κs =
     let a = c .before .before .before .before .before .before .before .before .before .before .before in
     (ready (a .args .text .now) (a .args .log .now) (a .args .work .now) (a .args .out .now) (a .pre .plan) (a .pre .read) (a .pre .covers) (within (c .before .before .before .before)) (a .args .depth) (a .pre .deepens) (omega arith) (omega (arith, counted (c .before .before .before .before))), roomy (a .args .text .now) (a .args .log .now) (a .args .work .now) (a .args .out .now) (a .pre .plan) (a .pre .read) (a .pre .covers) (within (c .before .before .before .before)) (a .args .depth) (a .pre .deepens) (omega arith) (omega (arith, counted (c .before .before .before .before))))
 
+slice-relend-prefix-clear : tie.Need-slice-relend-prefix-clear
+slice-relend-prefix-clear c = search needs
+
+slice-aggregate-clear : tie.Need-slice-aggregate-clear
+slice-aggregate-clear c = sym (length-take-le _ _ (omega (arith, c .before .before .before .before .before .evaluate .kept .1 .1 .1 .1 .1 .1 .0)))
+
 clear-requires : tie.Need-clear-requires
 clear-requires c κs = search needs
 
@@ -71,8 +81,8 @@ returns-5 c =
     let a = c .before .before .before .before .before .before .before .before .before .before .before .before .before .before .before .before .before .before .before .before in
     let e = c .before .before .before .before .before .before .before .before .evaluate in
     run-done (a .args .text .now) (a .args .log .now) (a .args .work .now) (a .args .out .now) (a .pre .plan) (a .pre .read) (a .pre .covers) (within (c .before .before .before .before .before .before .before .before .before .before .before .before .before)) (a .args .depth) (a .pre .deepens) (omega arith) (omega (arith, counted (c .before .before .before .before .before .before .before .before .before .before .before .before .before)))
-    (e .result) (e .last .1 .1 .1 .1 .1 .1 .0) (e .last .1 .1 .1 .1 .1 .1 .1 .0) (c .before .before .clear .last .0)
-    (e .ensures (ready (a .args .text .now) (a .args .log .now) (a .args .work .now) (a .args .out .now) (a .pre .plan) (a .pre .read) (a .pre .covers) (within (c .before .before .before .before .before .before .before .before .before .before .before .before .before)) (a .args .depth) (a .pre .deepens) (omega arith) (omega (arith, counted (c .before .before .before .before .before .before .before .before .before .before .before .before .before))))) (c .before .before .clear .ensures)
+    (e .result) (e .last .1 .1 .1 .1 .1 .1 .0) (e .last .1 .1 .1 .1 .1 .1 .1 .0) _
+    (e .ensures (ready (a .args .text .now) (a .args .log .now) (a .args .work .now) (a .args .out .now) (a .pre .plan) (a .pre .read) (a .pre .covers) (within (c .before .before .before .before .before .before .before .before .before .before .before .before .before)) (a .args .depth) (a .pre .deepens) (omega arith) (omega (arith, counted (c .before .before .before .before .before .before .before .before .before .before .before .before .before))))) (cleared-front _ _ _ (levels-there (c .before .before .before .before)) (c .before .before .clear .ensures))
 
 pub carry-out-spec : {M : Type 1} → statement M
 carry-out-spec =
@@ -88,6 +98,8 @@ carry-out-spec =
     add-if4
     returns-4
     evaluate-requires
+    slice-relend-prefix-clear
+    slice-aggregate-clear
     clear-requires
     same-length
     same-length-2

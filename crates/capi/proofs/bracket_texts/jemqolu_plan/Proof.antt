@@ -1,7 +1,6 @@
 -- `capi::bracket_texts::jemqolu_plan` meets its contract.
-use mathlib.Core.Path.{sym, ap, _∙_, subst}
-use Rattle.capi.specs.Answers.{Small, counted}
-use Rattle.capi.proofs.Signed.{read-back}
+use native.Mathlib.Omega.{arith}
+use Rattle.capi_answers.proofs.Signed.{read-count}
 use Rattle.capi.proofs.Small.{small-run}
 use borrow.Author.Needs.{needs}
 use Rattle.capi.proofs.bracket_texts.jemqolu_plan.Statement.{statement}
@@ -11,7 +10,7 @@ run-requires : tie.Need-run-requires
 run-requires c κs = search needs
 
 count-requires : tie.Need-count-requires
-count-requires c κs = subst Small (sym (c .before .before .before .before .run .ensures .0)) (small-run _ _ _ _)
+count-requires c κs = search needs
 
 same-length : tie.Need-same-length
 same-length c = search needs
@@ -22,8 +21,8 @@ same-length-2 c = search needs
 returns : tie.Need-returns
 returns c =
     let h = c .before .before .before .before .before .run .ensures in
-    (read-back (c .count .result) _ (c .count .ok) (c .count .ensures ∙ ap counted (h .0)), h .1)
+    let s = c .before .before .before .before .before .before .before .before .before .before .before .before in
+    (read-count (c .count .result) _ _ (c .count .ok) (c .count .ensures) (h .0) (small-run (s .args .out .now) (omega (arith, s .good .1 .1 .1 .0 .1)) _ _ _), h .1)
 
 pub jemqolu-plan-spec : {M : Type 1} → statement M
-jemqolu-plan-spec =
-    tie.close (tie.spec run-requires count-requires same-length same-length-2 returns)
+jemqolu-plan-spec = tie.close (tie.spec run-requires count-requires same-length same-length-2 returns)

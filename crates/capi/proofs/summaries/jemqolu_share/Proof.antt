@@ -1,7 +1,7 @@
 -- `capi::summaries::jemqolu_share` meets its contract.
 use mathlib.Core.Path.{ap, _∙_}
-use Rattle.capi.specs.Answers.{shared, shareLeft}
-use Rattle.capi.proofs.Signed.{read-back}
+use Rattle.capi_answers.specs.Answers.{shared, shareLeft}
+use Rattle.capi_answers.proofs.Signed.{read-back}
 use borrow.Author.Needs.{needs}
 use Rattle.capi.proofs.summaries.jemqolu_share.Statement.{statement}
 use Rattle.capi.proofs.summaries.jemqolu_share.Tie as tie

@@ -6,8 +6,8 @@ use mathlib.Core.Bool.{true, false}
 use lib.ListN.{length, take}
 use borrow.Author.Tests.{not-true, not-false}
 use Rattle.texts.proofs.Tests.{never}
-use Rattle.listing.specs.Feeding.{State, takePiece}
-use Rattle.listing.specs.Listers.{stateIn, unnumbered, isStopped, soundLister, takesMore}
+use Rattle.listing_texts.specs.Feeding.{State, takePiece, unnumbered}
+use Rattle.listing.specs.Listers.{stateIn, isStopped, soundLister, takesMore}
 use Rattle.listing.proofs.Feeds.{idle-stays, goes-on, Fed, fed-start, fed-more, fed-turn, fed-end}
 use Rattle.listing.proofs.Soundness.{sound-facts, state-sound}
 use borrow.Author.Needs.{needs}
@@ -46,16 +46,13 @@ loop-holds c =
     refl (f .0) (search needs) (f .1) (s .0)
 
 slice-aggregate-advance : tie.Need-slice-aggregate-advance Inv-loop μ-loop
-slice-aggregate-advance c = sym (c .before .before .loop .inv .wide)
+slice-aggregate-advance c = sym (c .before .before .loop .inv .tally .stack-wide)
 
 slice-aggregate-advance-2 : tie.Need-slice-aggregate-advance-2 Inv-loop μ-loop
-slice-aggregate-advance-2 c = sym (c .before .before .before .loop .inv .tally .stack-wide)
-
-slice-aggregate-advance-3 : tie.Need-slice-aggregate-advance-3 Inv-loop μ-loop
-slice-aggregate-advance-3 c = sym (c .before .before .before .before .loop .inv .tally .counts-wide)
+slice-aggregate-advance-2 c = sym (c .before .before .before .loop .inv .tally .counts-wide)
 
 advance-requires : tie.Need-advance-requires Inv-loop μ-loop
-advance-requires c κs = fed-more _ _ _ _ _ _ _ _ _ _ (c .before .before .before .before .loop .inv) (omega arith)
+advance-requires c κs = fed-more _ _ _ _ _ _ _ _ _ _ (c .before .before .before .loop .inv) (omega arith)
 
 loop-less : tie.Need-loop-less Inv-loop μ-loop
 loop-less c = let t = c .before .before .before .advance .ensures in omega (arith, t .forward, t .inside)
@@ -63,7 +60,7 @@ loop-less c = let t = c .before .before .before .advance .ensures in omega (arit
 loop-again : tie.Need-loop-again Inv-loop μ-loop
 loop-again c =
     let e = c .before .before .before .advance in
-    fed-turn _ _ _ _ _ _ _ _ _ _ (c .before .before .before .before .before .before .before .before .loop .inv) (e .result) (e .last .1 .1 .0) (e .last .1 .1 .1 .1 .1 .1 .1 .0) (e .last .1 .1 .1 .1 .1 .1 .1 .1 .0) (e .kept .1 .1 .0) (e .ensures)
+    fed-turn _ _ _ _ _ _ _ _ _ _ (c .before .before .before .before .before .before .before .loop .inv) (e .result) (e .last .1 .1 .1 .1 .1 .1 .1 .0) (e .last .1 .1 .1 .1 .1 .1 .1 .1 .0) (e .ensures)
 
 returns-2 : tie.Need-returns-2 Inv-loop μ-loop
 returns-2 c =
@@ -83,7 +80,6 @@ feed-spec =
     loop-holds
     slice-aggregate-advance
     slice-aggregate-advance-2
-    slice-aggregate-advance-3
     advance-requires
     loop-less
     loop-again

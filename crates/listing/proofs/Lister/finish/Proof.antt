@@ -1,12 +1,14 @@
 -- `listing::Lister::finish` meets its contract.
 use mathlib.Core.Path.{_≡_, sym, _∙_}
 use native.Mathlib.Omega.{arith}
-use lib.ListN.{length}
+use lib.ListN.{length, take}
 use lib.Seq.{length-take-le}
 use Rattle.reuse.specs.Limits.{maxExtents}
-use Rattle.listing.specs.Feeding.{verdictAt}
-use Rattle.listing.specs.Listers.{stateOf, Tallied}
-use Rattle.listing.specs.declared.Verdict.the-variants.{Listed}
+use Rattle.listing_texts.specs.Feeding.{verdictAt}
+use Rattle.listing_texts.proofs.RowLaws.{page-listed}
+use Rattle.listing_tally.specs.Rows.{Tallied}
+use Rattle.listing.specs.Listers.{stateOf}
+use Rattle.listing_texts.specs.declared.Verdict.the-variants.{Listed}
 use Rattle.listing.proofs.Soundness.{sound-facts}
 use Rattle.listing.proofs.Finishing.{counted, prints-refused, listed-sound, prints-listed}
 use borrow.Author.Needs.{needs}
@@ -49,9 +51,7 @@ slice-aggregate-listing-page c =
     sym (length-take-le (l .extents) (l .counts) (omega arith))
 
 listing-page-requires : tie.Need-listing-page-requires
-listing-page-requires c κs =
-    let l = c .before .before .before .before .before .args .self in
-    counted (l .reads) (l .extents) (l .stack) (l .counts) (tally (c .before .before))
+listing-page-requires c κs = search needs
 
 returns : tie.Need-returns
 returns c =
@@ -62,8 +62,12 @@ returns c =
 returns-2 : tie.Need-returns-2
 returns-2 c =
     let s = c .before .before .before in
-    let l = s .before .before .before .args .self in
-    (c .listing-page .ensures .0 ∙ prints-listed l (listed-sound l (is-listed s)) (is-listed s), c .listing-page .ensures .1)
+    let l = s .before .before .before .args .self in (
+      c .listing-page .ensures .0
+          ∙ sym (page-listed (l .reads) (take (l .extents) (l .counts)) (counted (l .reads) (l .extents) (l .stack) (l .counts) (tally s)))
+          ∙ prints-listed l (listed-sound l (is-listed s)) (is-listed s),
+      c .listing-page .ensures .1,
+    )
 
 pub finish-spec : {M : Type 1} → statement M
 finish-spec =

@@ -1,10 +1,11 @@
 -- `listing::Lister::sound` meets its contract.
-use mathlib.Core.Path.{_≡_, sym, _∙_}
+use mathlib.Core.Path.{_≡_, sym, ap, _∙_}
 use native.Mathlib.Omega.{arith}
-use lib.ListN.{length}
-use lib.Seq.{length-take-le}
+use lib.ListN.{length, take, length-take}
+use lib.Seq.{length-take-le, take-all}
 use borrow.Author.Tests.{not-true, not-false}
 use Rattle.reuse.specs.Limits.{maxExtents}
+use Rattle.reuse.specs.Lists.{sum}
 use Rattle.listing.proofs.Soundness.{sound-held, sound-extents, sound-reads, sound-twice, sound-all}
 use borrow.Author.Needs.{needs}
 use Rattle.listing.proofs.Lister.sound.Statement.{statement}
@@ -17,6 +18,13 @@ stack-wide c = search needs
 -- so has the row of the counts
 counts-wide : (c : tie.Start) → length (c .args .self .counts) ≡ maxExtents
 counts-wide c = search needs
+
+-- the sum of the counts in use
+total-is : (c : tie.After-total) → let l = c .before .before .before .before .before .before .before .before .before .before .before .before .args .self in c .total .result ≡ sum (take (l .extents) (l .counts))
+total-is c =
+    let a = c .before .before .before .before .before .before .before .before .before .before .before .before in
+    let l = a .args .self in
+    c .total .ensures .0 ∙ ap sum (take-all maxExtents (take (l .extents) (l .counts)) (omega (arith, length-take (l .extents) (l .counts), c .before .before .before .before .before .before .before .before .before .if2 .left)))
 
 returns : tie.Need-returns
 returns c = sound-held (c .before .before .args .self) (c .if1 .taken)
@@ -52,9 +60,7 @@ slice-aggregate-total c =
     sym (length-take-le (a .args .self .extents) (a .args .self .counts) (omega (arith, counts-wide a, c .before .before .before .before .before .before .before .before .if2 .left)))
 
 total-requires : tie.Need-total-requires
-total-requires c κs =
-    let a = c .before .before .before .before .before .before .before .before .before .before .before in
-    omega (arith, length-take-le (a .args .self .extents) (a .args .self .counts) (omega (arith, counts-wide a, c .before .before .before .before .before .before .before .before .if2 .left)), c .before .before .before .before .before .before .before .before .if2 .left)
+total-requires c κs = search needs
 
 add-result : tie.Need-add-result
 add-result c = search needs
@@ -65,7 +71,7 @@ cast-result c = search needs
 returns-5 : tie.Need-returns-5
 returns-5 c =
     let a = c .before .before .before .before .before .before .before .before .before .before .before .before .before in
-    sound-all (a .args .self) (c .before .before .before .before .before .before .before .before .before .before .before .if1 .left) (c .before .before .before .before .before .before .before .before .before .before .if2 .left) (c .before .before .before .before .before .before .before .before .if3 .left) (sym (c .before .before .before .before .before .all-distinct .ensures) ∙ not-false _ (c .before .before .before .before .if4 .left)) (c .before .total .result) (c .before .total .ensures .0)
+    sound-all (a .args .self) (c .before .before .before .before .before .before .before .before .before .before .before .if1 .left) (c .before .before .before .before .before .before .before .before .before .before .if2 .left) (c .before .before .before .before .before .before .before .before .if3 .left) (sym (c .before .before .before .before .before .all-distinct .ensures) ∙ not-false _ (c .before .before .before .before .if4 .left)) (c .before .total .result) (total-is (c .before))
 
 pub sound-spec : {M : Type 1} → statement M
 sound-spec =

@@ -1,8 +1,8 @@
 -- `plan::evaluation::evaluate` meets its contract. It calls itself with the depth left falling.
-use mathlib.Core.Path.{_≡_, refl, sym, ap, subst, _∙_}
+use mathlib.Core.Path.{_≡_, refl, sym, ap, _∙_}
 use Prim.Native.Nat.{ℕ, suc, _<_, _+_, _-_, _*_, _≤_}
 use native.Mathlib.Omega.{arith}
-use mathlib.Core.List.{List, _∷_, _++_}
+use mathlib.Core.List.{List}
 use lib.ListN.{length, take, drop}
 use lib.Seq.{length-take-le}
 use borrow.Rule.Slice.PartMut.{putMid, midOf}
@@ -11,8 +11,7 @@ use Rattle.reuse_rows.proofs.Puts.{placed-fits}
 use Rattle.summary_calls.specs.Calls.{Wrote, traceCall}
 use Rattle.texts.specs.Plans.{reads}
 use Rattle.texts.specs.PlanPlaces.{segAt, joinAt, lineAt}
-use Rattle.plan.specs.declared.lines.Line.{Line}
-use Rattle.plan.specs.Answers.{placeOf, LineWithin}
+use Rattle.plan_lines.proofs.Lines.{seg-line, join-line, no-line}
 use Rattle.plan.specs.Evaluation.{countOf, span, Ready, Evaluated}
 use Rattle.plan.specs.declared.evaluation.Done.{Done}
 use Rattle.plan.proofs.Evaluating.{Halfway, ready-first, ready-next, below-roomy, below-long, first-done, held-there, holdable, part-done, join-done, restart, resume, seg-done}
@@ -28,7 +27,7 @@ use Rattle.plan.proofs.evaluation.count_of.Reads as count-of-reads
 use Rattle.plan.proofs.evaluation.join_held.Reads as join-held-reads
 use Rattle.plan.proofs.evaluation.past.Reads as past-reads
 use Rattle.summary_trace.proofs.of_trace.Reads as of-trace-reads
-use Rattle.plan.proofs.lines.line_at.Reads as line-at-reads
+use Rattle.plan_lines.proofs.line_at.Reads as line-at-reads
 use Rattle.reuse_rows.proofs.put.Reads as put-reads
 use Rattle.plan.proofs.evaluation.+evaluate.{statement}
 use Rattle.plan.proofs.evaluation.+evaluate.Tie.{close}
@@ -78,10 +77,8 @@ segged : (t : ℕ) (c : evaluate-lts.After-l (evaluate-claims t) (evaluate-at t)
     × (a .at < g .1 .1 .0)
     × (g .1 .1 .0 ≤ length (a .s .now))
 segged t c =
-    let a = c .before .before .before .before .before .before .before .args in
-    let e = c .before .before .line-at .ensures in
-    let w = subst (LineWithin (a .at) (length (a .s .now))) (c .l .given .1) (e .1) in
-    (subst (λ (l : Line). placeOf (a .s .now) l ≡ lineAt (a .under) (drop (a .at) (a .s .now))) (c .l .given .1) (e .0), w .0, w .1)
+    let f = c .before .before .line-at in
+    seg-line _ _ (c .before .before .before .before .before .before .before .pre .1 .1 .inside) _ (f .result) (f .ensures) _ _ _ (c .l .given .1)
 
 -- the plan there is that seg
 seg-is : (t : ℕ) (c : evaluate-lts.After-l (evaluate-claims t) (evaluate-at t) evaluate.Post evaluate-Inv-loop evaluate-μ-loop) →
@@ -103,10 +100,8 @@ joined : (t : ℕ) (c : evaluate-lts.After-l2 (evaluate-claims t) (evaluate-at t
     let g = c .l2 .given .0 in
     (joinAt (drop (g .0) (a .s .now)) ≡ lineAt (a .under) (drop (a .at) (a .s .now))) × (a .at < g .0) × (g .0 ≤ length (a .s .now))
 joined t c =
-    let a = c .before .before .before .before .before .before .before .args in
-    let e = c .before .before .line-at .ensures in
-    let w = subst (LineWithin (a .at) (length (a .s .now))) (c .l2 .given .1) (e .1) in
-    (subst (λ (l : Line). placeOf (a .s .now) l ≡ lineAt (a .under) (drop (a .at) (a .s .now))) (c .l2 .given .1) (e .0), w .0, w .1)
+    let f = c .before .before .line-at in
+    join-line _ _ (c .before .before .before .before .before .before .before .pre .1 .1 .inside) _ (f .result) (f .ensures) _ (c .l2 .given .1)
 
 -- the plan there is that join
 abbrev opened : (t : ℕ) (c : evaluate-lts.After-l2 (evaluate-claims t) (evaluate-at t) evaluate.Post evaluate-Inv-loop evaluate-μ-loop) →
@@ -368,7 +363,7 @@ evaluate-past-requires-4 t c κs = search needs
 evaluate-returns : (t : ℕ) → evaluate-lts.Need-returns (evaluate-claims t) (evaluate-at t) evaluate.Post evaluate-Inv-loop evaluate-μ-loop
 evaluate-returns t c =
     let a = c .before .before .before .before .before .before .before .before .args in
-    λ r. some-line (a .s .now) (a .at) (a .under) (r .plan) (r .closes) (r .rest) (r .stands) (subst (λ (l : Line). placeOf (a .s .now) l ≡ lineAt (a .under) (drop (a .at) (a .s .now))) (c .before .enum-told .given .1) (c .before .before .before .line-at .ensures .0))
+    λ r. some-line (a .s .now) (a .at) (a .under) (r .plan) (r .closes) (r .rest) (r .stands) (no-line _ _ (c .before .before .before .before .before .before .before .before .pre .1 .1 .inside) _ _ (c .before .before .before .line-at .ensures) (c .before .enum-told .given .1))
 
 evaluate-same-length : (t : ℕ) → evaluate-lts.Need-same-length (evaluate-claims t) (evaluate-at t) evaluate.Post evaluate-Inv-loop evaluate-μ-loop
 evaluate-same-length t c = search needs

@@ -1,9 +1,9 @@
 -- `plan::evaluation::join_held` meets its contract.
 use mathlib.Core.Path.{_≡_, sym, ap, _∙_}
-use Prim.Native.Nat.{ℕ, _+_, _-_, _≤_}
+use Prim.Native.Nat.{ℕ, _+_, _-_}
 use native.Mathlib.Omega.{arith}
 use mathlib.Core.List.{List}
-use lib.ListN.{length, take, drop}
+use lib.ListN.{take}
 use lib.Seq.{length-take-le}
 use borrow.Rule.Slice.PartMut.{midOf}
 use Rattle.reuse_rows.proofs.Puts.{placed-fits}

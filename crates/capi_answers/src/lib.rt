@@ -1,0 +1,97 @@
+// Answers as one signed number: what was asked for, or the negative of the refusal's number.
+use session::Answer;
+use summary::HitShare;
+use summary::MissCount;
+use summary::ShareAnswer;
+use summary::Written;
+use watch::Outcome;
+ghost use mathlib.Core.Path.{_≡_};
+ghost use Prim.Native.Nat.{min};
+ghost use lib.IntN.{pos};
+ghost use Rattle.capi_answers.specs.Answers.{negative, mostSigned, countedMost, missed, shared, shareLeft, told, sumsLeft, noted};
+
+// The largest signed number.
+const MOST: usize = 9223372036854775807;
+
+// A refusal: the negative of its number.
+fn refusal(n: u32) -> i64
+    ensures { λ r. ⌜ r ≡ negative n ⌝ }
+{
+    0 - n as i64
+}
+
+// A number, or the largest signed one.
+fn capped(n: usize) -> i64
+    ensures { λ r. ⌜ r ≡ pos (min n mostSigned) ⌝ }
+{
+    if MOST < n {
+        return MOST as i64;
+    }
+    n as i64
+}
+
+// How many words were written, counted to at most the largest signed number, or the refusal.
+pub fn count(w: Written) -> i64
+    ensures { λ r. ⌜ r ≡ countedMost w ⌝ }
+{
+    match w {
+        Written::Words(n) => capped(n),
+        Written::Refused(n) => refusal(n),
+    }
+}
+
+// The misses, or the refusal.
+pub fn misses(m: MissCount) -> i64
+    ensures { λ r. ⌜ r ≡ missed m ⌝ }
+{
+    match m {
+        MissCount::Misses(n) => n as i64,
+        MissCount::Refused(n) => refusal(n),
+    }
+}
+
+// 1 with the share left in its place, 0 for 'no reads', or the refusal.
+pub fn share(s: ShareAnswer, place: &mut f64) -> i64
+    ensures { λ r. ⌜ (r ≡ shared s) × (now (place .exit) ≡ shareLeft s (now (place .entry))) ⌝ }
+{
+    match s {
+        ShareAnswer::Answered(h) => match h {
+            HitShare::Share(x) => {
+                *place = x;
+                1
+            }
+            HitShare::NoReads => 0,
+        },
+        ShareAnswer::Refused(n) => refusal(n),
+    }
+}
+
+// The distance, 0 for a cold read, or the refusal; the sums read are left in their place.
+pub fn read(a: Answer, sums: &mut u32) -> i64
+    ensures { λ r. ⌜ (r ≡ told a) × (now (sums .exit) ≡ sumsLeft a (now (sums .entry))) ⌝ }
+{
+    match a {
+        Answer::Cold => {
+            *sums = 0;
+            0
+        }
+        Answer::Distance {
+            distance,
+            sums_read,
+        } => {
+            *sums = sums_read;
+            distance as i64
+        }
+        Answer::Refused(n) => refusal(n),
+    }
+}
+
+// 0 for a read that was counted, or the refusal.
+pub fn outcome(o: Outcome) -> i64
+    ensures { λ r. ⌜ r ≡ noted o ⌝ }
+{
+    match o {
+        Outcome::Counted => 0,
+        Outcome::Refused(n) => refusal(n),
+    }
+}

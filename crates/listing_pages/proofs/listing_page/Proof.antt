@@ -1,0 +1,64 @@
+-- `listing_pages::listing_page` meets its contract.
+use mathlib.Core.Path.{_≡_, refl, ap, _∙_}
+use Prim.Native.Nat.{_≤_}
+use native.Mathlib.Omega.{arith}
+use lib.ListN.{length}
+use lib.Seq.{take-all}
+use Rattle.reuse.specs.Limits.{maxExtents}
+use Rattle.reuse.specs.Lists.{sum}
+use Rattle.listing_texts.specs.Pages.{Counted}
+use Rattle.listing_texts.proofs.RowLaws.{page-listed, page-many, page-other}
+use borrow.Author.Needs.{needs}
+use Rattle.listing_pages.proofs.listing_page.Statement.{statement}
+use Rattle.listing_pages.proofs.listing_page.Tie as tie
+
+-- the sum of no more counts than the limit
+total-is : (c : tie.After-total) → length (c .before .before .before .args .counts .now) ≤ maxExtents → c .total .result ≡ sum (c .before .before .before .args .counts .now)
+total-is c h = c .total .ensures .0 ∙ ap sum (take-all maxExtents (c .before .before .before .args .counts .now) h)
+
+-- counts that the code has found to add up
+adds : (c : tie.After-bytes) → Counted (c .before .before .before .before .before .args .reads) (c .before .before .before .before .before .args .counts .now)
+adds c = let s = total-is (c .before .before) (omega arith) in record { few = omega arith; whole = omega arith }
+
+refused-page-requires : tie.Need-refused-page-requires
+refused-page-requires c κs = search needs
+
+returns : tie.Need-returns
+returns c = (c .refused-page .ensures .0 ∙ page-many _ _ (c .before .if1 .taken), c .refused-page .ensures .1)
+
+total-requires : tie.Need-total-requires
+total-requires c κs = search needs
+
+add-if2 : tie.Need-add-if2
+add-if2 c = search needs
+
+refused-page-requires-2 : tie.Need-refused-page-requires-2
+refused-page-requires-2 c κs = search needs
+
+returns-2 : tie.Need-returns-2
+returns-2 c =
+    let s = total-is (c .before .before) (c .before .before .before .if1 .left) in
+    (c .refused-page2 .ensures .0 ∙ page-other _ _ (omega arith) (λ e. c .before .if2 .taken (omega arith)), c .refused-page2 .ensures .1)
+
+slice-aggregate-put-listing : tie.Need-slice-aggregate-put-listing
+slice-aggregate-put-listing c = search needs
+
+put-listing-requires : tie.Need-put-listing-requires
+put-listing-requires c κs = (adds c, refl)
+
+returns-3 : tie.Need-returns-3
+returns-3 c = (c .before .put-listing .ensures .0 ∙ page-listed _ _ (adds (c .before .before)), c .before .put-listing .ensures .1)
+
+pub listing-page-spec : {M : Type 1} → statement M
+listing-page-spec =
+    tie.close
+    (tie.spec
+    refused-page-requires
+    returns
+    total-requires
+    add-if2
+    refused-page-requires-2
+    returns-2
+    slice-aggregate-put-listing
+    put-listing-requires
+    returns-3)

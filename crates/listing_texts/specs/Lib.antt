@@ -1,0 +1,4 @@
+pub mod Tallies
+pub mod Listings
+pub mod Feeding
+pub mod Pages

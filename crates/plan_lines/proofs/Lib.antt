@@ -1,0 +1,2 @@
+mod Places
+pub mod Lines

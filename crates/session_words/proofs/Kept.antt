@@ -1,0 +1,85 @@
+-- Words that hold a session: too few of them, and what a refusal leaves.
+use mathlib.Core.Path.{_≡_, refl, ap, _∙_}
+use Prim.Native.Nat.{ℕ, _≤_, _<_}
+use native.Mathlib.Omega.{arith}
+use mathlib.Core.List.{List}
+use mathlib.Core.Bool.{true, false, true≢false, false≢true}
+use lib.ListN.{length, length-replicate}
+use borrow.Author.Tests.{le-leb, lt-leb}
+use Rattle.reuse.specs.Limits.{maxExtents, slotCount, sumCount}
+use Rattle.reuse_rows.specs.Rows.{putAt}
+use Rattle.reuse_rows.proofs.Puts.{put-length}
+use Rattle.summary_calls.specs.declared.Written.the-variants.{Words}
+use Rattle.summary_calls.specs.Calls.{refused}
+use Rattle.summary_calls.proofs.Calls.{wrote-short, wrote-all}
+use Rattle.session.specs.declared.Session.{Session}
+use Rattle.session.specs.declared.Answer.{Answer}
+use Rattle.session.specs.declared.Answer.the-variants.{Cold, Distance, Refused}
+use Rattle.session.specs.Sessions.{fresh}
+use Rattle.session_marks.specs.Soundness.{Wide}
+use Rattle.session.specs.Reads.{turnedAway, readOf}
+use Rattle.session_summary.specs.Summaries.{summaryCall}
+use Rattle.session_words.specs.Layout.{sessionLength, sessionIn, sessionLaid}
+use Rattle.session_words.specs.Calls.{newSession, readIn, sessionLeft, summaryIn, isRead}
+use Rattle.session_words.proofs.Laid.{laid-length, laid-read}
+
+-- the rows of a new session
+fresh-wide : Wide (fresh .first) (fresh .hist) (fresh .slots) (fresh .sums)
+fresh-wide = record {
+  first-wide = length-replicate {A = ℕ} maxExtents 0;
+  hist-wide = length-replicate {A = ℕ} maxExtents 0;
+  slots-wide = length-replicate {A = ℕ} slotCount 0;
+  sums-wide = length-replicate {A = ℕ} sumCount 0;
+}
+
+module _ (w : List ℕ) where
+  module _ (few : length w < sessionLength) where
+    -- no room for a new session
+    pub new-short : newSession w ≡ refused 6 w
+    unfolding newSession
+    new-short = wrote-short (sessionLaid fresh) w (omega (arith, few, laid-length fresh fresh-wide))
+
+    -- no session to read with
+    pub read-short : (x : ℕ) → readIn w x ≡ turnedAway (sessionIn w) 7
+    unfolding readIn
+    read-short x = simp (lt-leb sessionLength (length w) few)
+
+    -- none to summarize
+    pub summary-short : (buffer : List ℕ) → summaryIn w buffer ≡ refused 7 buffer
+    unfolding summaryIn
+    summary-short buffer = simp (lt-leb sessionLength (length w) few)
+
+  module _ (enough : sessionLength ≤ length w) where
+    -- a new session is written
+    pub new-all : newSession w ≡ record { answer = Words sessionLength; buffer = putAt w 0 (sessionLaid fresh) }
+    unfolding newSession
+    new-all = wrote-all (sessionLaid fresh) w sessionLength (laid-length fresh fresh-wide) enough
+
+    -- the session in the words reads
+    pub read-all : (x : ℕ) → readIn w x ≡ readOf (sessionIn w) x
+    unfolding readIn
+    read-all x = simp (le-leb sessionLength (length w) enough)
+
+    -- it is summarized
+    pub summary-all : (buffer : List ℕ) → summaryIn w buffer ≡ summaryCall (sessionIn w) buffer
+    unfolding summaryIn
+    summary-all buffer = simp (le-leb sessionLength (length w) enough)
+
+-- a session laid into words reads as it does by itself
+pub read-kept : (s : Session) → Wide (s .first) (s .hist) (s .slots) (s .sums) → (w : List ℕ) → sessionLength ≤ length w → (x : ℕ)
+    → readIn (putAt w 0 (sessionLaid s)) x ≡ readOf s x
+read-kept s wide w l x =
+    let e : length (putAt w 0 (sessionLaid s)) ≡ length w = put-length w 0 (sessionLaid s) (omega (arith, l, laid-length s wide)) in
+    read-all (putAt w 0 (sessionLaid s)) (omega (arith, l, e)) x ∙ ap (λ (t : Session). readOf t x) (laid-read s wide w)
+
+-- a read that is accepted puts the session's words
+pub left-read : (a : Answer) (s : Session) (w : List ℕ) → isRead a ≡ true → sessionLeft a s w ≡ putAt w 0 (sessionLaid s)
+left-read Cold s w e = refl
+left-read (Distance d n) s w e = refl
+left-read (Refused n) s w e = absurd (false≢true e)
+
+-- a refusal leaves the words
+pub left-refused : (a : Answer) (s : Session) (w : List ℕ) → isRead a ≡ false → sessionLeft a s w ≡ w
+left-refused Cold s w e = absurd (true≢false e)
+left-refused (Distance d n) s w e = absurd (true≢false e)
+left-refused (Refused n) s w e = refl

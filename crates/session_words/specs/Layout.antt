@@ -1,0 +1,45 @@
+-- A session as words: what the first words of a row stand for, and the words of a session.
+use Prim.Native.Nat.{ℕ, _+_}
+use mathlib.Core.List.{List, [], _∷_, _++_}
+use lib.ListN.{take, drop, getD}
+use Rattle.reuse.specs.Limits.{maxExtents, slotCount, sumCount}
+use Rattle.session.specs.declared.Session.{Session}
+
+-- where F, H, the slots, the sums and the next slot stand, after the reads
+abbrev pub firstPlace : ℕ
+firstPlace = 1
+
+abbrev pub histPlace : ℕ
+histPlace = firstPlace + maxExtents
+
+abbrev pub slotsPlace : ℕ
+slotsPlace = histPlace + maxExtents
+
+abbrev pub sumsPlace : ℕ
+sumsPlace = slotsPlace + slotCount
+
+abbrev pub nextPlace : ℕ
+nextPlace = sumsPlace + sumCount
+
+-- the words of a session
+abbrev pub sessionLength : ℕ
+sessionLength = nextPlace + 1
+
+-- n words from place `at` on
+unfoldable pub part : ℕ → ℕ → List ℕ → List ℕ
+part at n w = take n (drop at w)
+
+-- the session that stands in the first words
+unfoldable pub sessionIn : List ℕ → Session
+sessionIn w = record {
+  reads = getD w 0 0;
+  first = part firstPlace maxExtents w;
+  hist = part histPlace maxExtents w;
+  slots = part slotsPlace slotCount w;
+  sums = part sumsPlace sumCount w;
+  next = getD w nextPlace 0;
+}
+
+-- the words of a session: L, F, H, the slots, the sums, the next slot
+unfoldable pub sessionLaid : Session → List ℕ
+sessionLaid s = s .reads ∷ (s .first ++ (s .hist ++ (s .slots ++ (s .sums ++ (s .next ∷ [])))))

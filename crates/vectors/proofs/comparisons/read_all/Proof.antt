@@ -1,0 +1,74 @@
+-- `vectors::comparisons::read_all` is safe and ends.
+use Prim.Native.Nat.{_-_, _<_}
+use borrow.Author.Needs.{needs}
+use Rattle.vectors.proofs.comparisons.read_all.Statement.{statement}
+use Rattle.vectors.proofs.comparisons.read_all.Tie as tie
+
+abbrev Inv-loop : tie.InvT-loop
+Inv-loop log size held₀ last₀ places run₀ i₀ i-end held last run i = i-end < 18446744073709551616
+
+abbrev μ-loop : tie.MeasureT-loop
+μ-loop log size held₀ last₀ places run₀ i₀ i-end held last run i = i-end - i
+
+places-requires : tie.Need-places-requires Inv-loop μ-loop
+places-requires c κs = search needs
+
+new-requires : tie.Need-new-requires Inv-loop μ-loop
+new-requires c κs = search needs
+
+new-watch-requires : tie.Need-new-watch-requires Inv-loop μ-loop
+new-watch-requires c κs = search needs
+
+loop-holds : tie.Need-loop-holds Inv-loop μ-loop
+loop-holds c = search needs
+
+mul-x : tie.Need-mul-x Inv-loop μ-loop
+mul-x c = search needs
+
+shared-slice-read-x : tie.Need-shared-slice-read-x Inv-loop μ-loop
+shared-slice-read-x c = search needs
+
+narrow-requires : tie.Need-narrow-requires Inv-loop μ-loop
+narrow-requires c κs = search needs
+
+wrapping-add-u32-requires : tie.Need-wrapping-add-u32-requires Inv-loop μ-loop
+wrapping-add-u32-requires c κs = search needs
+
+read-requires : tie.Need-read-requires Inv-loop μ-loop
+read-requires c κs = search needs
+
+step-requires : tie.Need-step-requires Inv-loop μ-loop
+step-requires c κs = search needs
+
+add-i : tie.Need-add-i Inv-loop μ-loop
+add-i c = search needs
+
+loop-less : tie.Need-loop-less Inv-loop μ-loop
+loop-less c = search needs
+
+loop-again : tie.Need-loop-again Inv-loop μ-loop
+loop-again c = search needs
+
+returns : tie.Need-returns Inv-loop μ-loop
+returns c = search needs
+
+pub read-all-spec : {M : Type 1} → statement M
+read-all-spec =
+    tie.close
+    (tie.spec
+    Inv-loop
+    μ-loop
+    places-requires
+    new-requires
+    new-watch-requires
+    loop-holds
+    mul-x
+    shared-slice-read-x
+    narrow-requires
+    wrapping-add-u32-requires
+    read-requires
+    step-requires
+    add-i
+    loop-less
+    loop-again
+    returns)

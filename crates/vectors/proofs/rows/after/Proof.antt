@@ -1,0 +1,50 @@
+-- `vectors::rows::after` is safe and ends.
+use Prim.Native.Nat.{_-_}
+use borrow.Author.Needs.{needs}
+use Rattle.vectors.proofs.rows.after.Statement.{statement}
+use Rattle.vectors.proofs.rows.after.Tie as tie
+
+abbrev Inv-loop : tie.InvT-loop
+Inv-loop reads extents s₀ i₀ s i = Unit {0}
+
+abbrev μ-loop : tie.MeasureT-loop
+μ-loop reads extents s₀ i₀ s i = reads - i
+
+new-requires : tie.Need-new-requires Inv-loop μ-loop
+new-requires c κs = search needs
+
+loop-holds : tie.Need-loop-holds Inv-loop μ-loop
+loop-holds c = search needs
+
+rem-read : tie.Need-rem-read Inv-loop μ-loop
+rem-read c = search needs
+
+read-requires : tie.Need-read-requires Inv-loop μ-loop
+read-requires c κs = search needs
+
+add-i : tie.Need-add-i Inv-loop μ-loop
+add-i c = search needs
+
+loop-less : tie.Need-loop-less Inv-loop μ-loop
+loop-less c = search needs
+
+loop-again : tie.Need-loop-again Inv-loop μ-loop
+loop-again c = search needs
+
+returns : tie.Need-returns Inv-loop μ-loop
+returns c = search needs
+
+pub after-spec : {M : Type 1} → statement M
+after-spec =
+    tie.close
+    (tie.spec
+    Inv-loop
+    μ-loop
+    new-requires
+    loop-holds
+    rem-read
+    read-requires
+    add-i
+    loop-less
+    loop-again
+    returns)

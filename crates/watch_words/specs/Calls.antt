@@ -1,0 +1,52 @@
+-- What the calls on words that hold a watch answer and leave.
+use Prim.Native.Nat.{ℕ, zero, suc}
+use mathlib.Core.Bool.{Bool, true, false, cond}
+use mathlib.Core.List.{List}
+use lib.Dec.{leb}
+use lib.ListN.{length}
+use Rattle.reuse_rows.specs.Rows.{putAt}
+use Rattle.summary_calls.specs.declared.MissCount.{MissCount}
+use Rattle.summary_calls.specs.declared.MissCount.the-variants.{Refused as NoMisses}
+use Rattle.summary_calls.specs.declared.ShareAnswer.{ShareAnswer}
+use Rattle.summary_calls.specs.declared.ShareAnswer.the-variants.{Refused as NoShare}
+use Rattle.summary_calls.specs.Calls.{Wrote, wrote}
+use Rattle.watch.specs.declared.Watch.{Watch}
+use Rattle.watch.specs.declared.Reading.{Reading}
+use Rattle.watch.specs.declared.Reading.the-variants.{Cold as ColdReading, Distance as DistanceReading}
+use Rattle.watch.specs.declared.Outcome.{Outcome}
+use Rattle.watch.specs.declared.Outcome.the-variants.{Counted, Refused as NotCounted}
+use Rattle.watch.specs.declared.Change.{Change}
+use Rattle.watch.specs.Watching.{newOf, notedOf, missesCall, shareCall}
+use Rattle.watch.specs.Watching.{refused as unnoted}
+use Rattle.watch_words.specs.Layout.{watchLength, watchIn, watchLaid}
+
+-- a new watch's words, or 6
+unfoldable pub newWatch : ℕ → List ℕ → Wrote
+newWatch size w = wrote (watchLaid (newOf size)) w
+
+-- a distance as the buffer of distances writes it: 0 for cold
+abbrev pub readingAt : ℕ → Reading
+readingAt zero = ColdReading
+readingAt (suc d) = DistanceReading (suc d)
+
+-- an update of the watch in the first words; too few words are no sound watch
+unfoldable pub noteIn : List ℕ → ℕ → Change
+noteIn w d = cond (leb watchLength (length w)) (notedOf (watchIn w) (readingAt d)) (unnoted (watchIn w) 7)
+
+-- the words after an update: the watch's at their front; a refusal leaves them as they were
+abbrev pub watchLeft : Outcome → Watch → List ℕ → List ℕ
+watchLeft Counted s w = putAt w 0 (watchLaid s)
+watchLeft (NotCounted n) s w = w
+
+-- the misses of the watch in the first words
+unfoldable pub missesIn : List ℕ → MissCount
+missesIn w = cond (leb watchLength (length w)) (missesCall (watchIn w)) (NoMisses 7)
+
+-- the hit share of the watch in the first words
+unfoldable pub shareIn : List ℕ → ShareAnswer
+shareIn w = cond (leb watchLength (length w)) (shareCall (watchIn w)) (NoShare 7)
+
+-- an update was counted
+abbrev pub isCounted : Outcome → Bool
+isCounted Counted = true
+isCounted (NotCounted n) = false
