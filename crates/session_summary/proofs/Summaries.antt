@@ -82,6 +82,10 @@ module _ (s : Session) (k : Kept s) where
   unfolding hitsOf missesOf
   hits-reads c = rw (extents-session, counts-session) (omega (arith, sum-split c (take (extents s) (s .hist)), hist-total s k))
 
+-- so no more hits than reads
+pub hits-few : (s : Session) (k : Kept s) (c n : ℕ) → n ≡ hitsOf (sessionWords s) c → n ≤ s .reads
+hits-few s k c n e = omega (arith, hits-reads s k c)
+
 -- a session that has read t has the summary of t
 pub session-summary : (s : Session) (t : List ℕ) → Stands s t → sessionWords s ≡ summaryOf t
 unfolding sessionWords summaryOf

@@ -9,7 +9,7 @@ use Rattle.session_marks.specs.Soundness.{Wide}
 use Rattle.session.specs.Sessions.{sound}
 use Rattle.session_summary.specs.Summaries.{sessionWords, missesCall}
 use Rattle.session.proofs.Sound.{rows-of}
-use Rattle.session_summary.proofs.Summaries.{hits-reads}
+use Rattle.session_summary.proofs.Summaries.{hits-reads, hits-few}
 use borrow.Author.Needs.{needs}
 use Rattle.session_summary.proofs.misses.Statement.{statement}
 use Rattle.session_summary.proofs.misses.Tie as tie
@@ -35,7 +35,7 @@ hits-requires c κs = ok c
 sub-t7 : tie.Need-sub-t7
 sub-t7 c =
     let z = c .before .before .before in
-    omega (arith, c .hits .ensures, hits-reads (z .args .s) (rows-of (z .args .s) (wide z) (ok (c .before))) (z .args .size))
+    omega (arith, hits-few (z .args .s) (rows-of (z .args .s) (wide z) (ok (c .before))) _ _ (c .hits .ensures))
 
 returns-2 : tie.Need-returns-2
 unfolding missesCall
