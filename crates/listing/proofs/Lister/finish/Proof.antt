@@ -45,10 +45,7 @@ array-share-prefix-counts : tie.Need-array-share-prefix-counts
 array-share-prefix-counts c = let g = tally (c .before) in omega arith
 
 slice-aggregate-listing-page : tie.Need-slice-aggregate-listing-page
-slice-aggregate-listing-page c =
-    let l = c .before .before .before .before .before .args .self in
-    let g = tally (c .before .before) in
-    sym (length-take-le (l .extents) (l .counts) (omega arith))
+slice-aggregate-listing-page c = let g = tally (c .before .before) in sym (length-take-le _ _ (omega arith))
 
 listing-page-requires : tie.Need-listing-page-requires
 listing-page-requires c κs = search needs
