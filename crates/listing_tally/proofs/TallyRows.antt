@@ -28,7 +28,8 @@ use Rattle.texts.proofs.Tests.{never}
 use Rattle.listing_texts.specs.Tallies.{Tally, tallied, overTally}
 use Rattle.listing_texts.specs.Feeding.{taken, takeRow}
 use Rattle.listing_tally.specs.Rows.{tallyIn, Tallied, takenBy, takenIn}
-use Rattle.listing_tally.specs.Standings.{Standing, countAt, readAt, readTaken}
+use Rattle.listing_tally.specs.Standings.{Standing, readAt, readTaken}
+use Rattle.reuse_rows.specs.Rows.{oneMore}
 use Rattle.listing_tally.specs.declared.Phase.the-variants.{Inside, Whole}
 
 -- one count of 0 more adds nothing
@@ -200,7 +201,7 @@ module _ (reads extents : ℕ) (stack counts : List ℕ) (g : Tallied reads exte
             }
 
         -- the count does not wrap
-        count-is : countAt (d - 1) counts ≡ counts-known
+        count-is : oneMore (d - 1) counts ≡ counts-known
         count-is = let k = known-place in ap (set counts (d - 1)) (mod-eq-of-lt (omega (arith, k .3)))
 
         -- both

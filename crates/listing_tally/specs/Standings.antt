@@ -1,10 +1,11 @@
 -- What a line does to a text taken so far, whatever stands in the rows of its tally.
-use Prim.Native.Nat.{ℕ, _+_, _-_, _%_, _^_}
+use Prim.Native.Nat.{ℕ, _+_, _-_}
 use mathlib.Core.List.{List, _++_}
 use mathlib.Core.Bool.{Bool, true, false, cond}
 use lib.Dec.{ltb, leb}
-use lib.ListN.{length, take, getD, set}
+use lib.ListN.{length, take, set}
 use Rattle.reuse.specs.Limits.{maxReads}
+use Rattle.reuse_rows.specs.Rows.{oneMore}
 use Rattle.reuse_engine.specs.Engine.{placeOf, leftBy}
 use Rattle.reuse_engine.specs.declared.Place.{Place}
 use Rattle.reuse_engine.specs.declared.Place.the-variants.{Cold, Depth, Full, BadCount}
@@ -44,10 +45,6 @@ headTaken reads extents Open = goOn false 0 0
 headTaken reads extents Closed = goOn true 0 0
 headTaken reads extents BadHead = stop 1 reads extents
 
--- one more is counted at a place, in a word of 32 bits
-abbrev pub countAt : ℕ → List ℕ → List ℕ
-countAt i counts = set counts i ((getD counts i 0 + 1) % 2 ^ 32)
-
 -- a text with so many reads of so many extents, and its rows
 module _ (reads extents : ℕ) (stack counts : List ℕ) where
   -- it is refused, the rows as they were
@@ -57,7 +54,7 @@ module _ (reads extents : ℕ) (stack counts : List ℕ) where
   -- a read of x, by where x stood in the stack
   abbrev pub readAt : Place → ℕ → Bool → Standing
   readAt Cold x ends = standsAt (goOn ends (reads + 1) (extents + 1)) (leftBy Cold extents x stack) (set counts extents 0)
-  readAt (Depth d) x ends = standsAt (goOn ends (reads + 1) extents) (leftBy (Depth d) extents x stack) (countAt (d - 1) counts)
+  readAt (Depth d) x ends = standsAt (goOn ends (reads + 1) extents) (leftBy (Depth d) extents x stack) (oneMore (d - 1) counts)
   readAt Full x ends = stopped 9
   readAt BadCount x ends = stopped 7
 

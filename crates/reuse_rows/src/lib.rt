@@ -113,10 +113,10 @@ pub fn all_zero(row: &[u32]) -> bool
 pub fn clear(row: &mut [u32])
     ensures { λ _. ⌜ now (row .exit) ≡ replicate (length (now (row .entry))) 0 ⌝ }
 {
-    let mut i: usize = 0;
-    while i < row.len() {
-        row[i] = 0;
-        i = i + 1;
+    let mut at: usize = 0;
+    while at < row.len() {
+        row[at] = 0;
+        at = at + 1;
     }
 }
 

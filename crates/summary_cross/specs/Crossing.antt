@@ -1,7 +1,7 @@
 -- Distances counted across a cut, on any words.
 use Prim.Native.Nat.{ℕ, _+_, _-_, _%_, _^_}
 use mathlib.Core.List.{List, [], _∷_}
-use lib.ListN.{getD, set}
+use Rattle.reuse_rows.specs.Rows.{oneMore}
 use Rattle.reuse_engine.specs.declared.Place.{Place}
 use Rattle.reuse_engine.specs.declared.Place.the-variants.{Cold, Depth, Full, BadCount}
 use Rattle.reuse_engine.specs.Engine.{placeOf, leftBy, heldAfter}
@@ -15,7 +15,7 @@ added (x ∷ s) (y ∷ t) = ((x + y) % 2 ^ 32) ∷ added s t
 -- the row with one answer counted: a distance d at place d - 1, modulo 2^32
 abbrev pub countedBy : Place → List ℕ → List ℕ
 countedBy Cold row = row
-countedBy (Depth d) row = set row (d - 1) ((getD row (d - 1) 0 + 1) % 2 ^ 32)
+countedBy (Depth d) row = oneMore (d - 1) row
 countedBy Full row = row
 countedBy BadCount row = row
 

@@ -2,9 +2,8 @@
 use reuse::MAX_EXTENTS;
 use reuse_engine::Place;
 ghost use mathlib.Core.Path.{_≡_};
-ghost use Prim.Native.Nat.{_+_, _%_, _^_};
-ghost use lib.ListN.{length, getD, set};
-ghost use Rattle.reuse_rows.specs.Rows.{padded};
+ghost use lib.ListN.{length};
+ghost use Rattle.reuse_rows.specs.Rows.{oneMore, padded};
 ghost use Rattle.summary_cross.specs.Crossing.{added, crossed};
 
 // The counts `before` and `after` added, and each distance counted of the reads `first` after the stack `recent`.
@@ -56,7 +55,7 @@ fn cross(stack: &mut [u32], n: usize, reads: &[u32], hist: &mut [u32])
 
 // One more at a place of the row, where it has such a place, modulo 2^32.
 fn count(row: &mut [u32], at: usize)
-    ensures { λ _. ⌜ now (row .exit) ≡ set (now (row .entry)) at ((getD (now (row .entry)) at 0 + 1) % 2 ^ 32) ⌝ }
+    ensures { λ _. ⌜ now (row .exit) ≡ oneMore at (now (row .entry)) ⌝ }
 {
     if at < row.len() {
         row[at] = std::num::wrapping_add_u32(row[at], 1);
