@@ -12,7 +12,7 @@ use Rattle.reuse.specs.Lru.{reuses}
 use Rattle.reuse_rows.specs.Rows.{padded}
 use Rattle.reuse.specs.Summary.{wellFormed, readsOf, firstOf, recentOf}
 use Rattle.reuse.proofs.Stack.{length-reuses}
-use Rattle.reuse_rows.proofs.Padding.{padded-front, padded-length}
+use Rattle.reuse_copies.proofs.Padding.{padded-front, padded-length}
 use Rattle.reuse.proofs.Formed.{formed, recent-distinct, prefix-stack}
 use Rattle.summary_calls.specs.declared.Written.the-variants.{Words}
 use Rattle.summary_calls.specs.Calls.{wrote, refused}

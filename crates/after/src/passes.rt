@@ -18,7 +18,7 @@ pub fn recent_stack(prefix: &[u32]) -> [u32; reuse::MAX_EXTENTS]
     let v = prefix[1] as usize;
     let recent = 2 + v;
     let counts = recent + v;
-    reuse_rows::padded(&prefix[recent..counts])
+    reuse_copies::padded(&prefix[recent..counts])
 }
 
 // The distances of the reads after the stack in the first n words, one word each.

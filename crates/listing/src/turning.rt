@@ -68,7 +68,7 @@ pub fn advance(
     if end == bytes.len() {
         if all <= LONGEST {
             let mut kept = line;
-            reuse_rows::put_bytes(&mut kept, held, &bytes[at..end]);
+            reuse_copies::put_bytes(&mut kept, held, &bytes[at..end]);
             return Turn {
                 at: end,
                 line: kept,

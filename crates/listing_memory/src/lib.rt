@@ -21,7 +21,7 @@ pub fn list(text: &[u8], out: &mut [u8]) -> Written
             if out.len() < len {
                 return Written::Refused(6);
             }
-            reuse_rows::put_bytes(out, 0, &bytes[..len]);
+            reuse_copies::put_bytes(out, 0, &bytes[..len]);
             Written::Words(len)
         }
     }

@@ -22,7 +22,7 @@ fn put(page: &mut [u8], at: usize, bytes: &[u8]) -> usize
     requires { ⌜ at + length (now bytes) ≤ length (now page) ⌝ }
     ensures { λ r. ⌜ Put (now (page .entry)) at (now (bytes .entry)) (now (page .exit)) r ⌝ }
 {
-    reuse_rows::put_bytes(page, at, bytes);
+    reuse_copies::put_bytes(page, at, bytes);
     at + bytes.len()
 }
 

@@ -6,7 +6,7 @@ use mathlib.Core.List.{List, [], _∷_, _++_, append-assoc}
 use lib.ListN.{length, take, drop, length-append}
 use lib.Seq.{take-at, length-take-le}
 use Rattle.reuse_rows.specs.Rows.{putAt, placed}
-use Rattle.reuse_rows.proofs.Puts.{placed-fits}
+use Rattle.reuse_copies.proofs.Puts.{placed-fits}
 use Rattle.listing_texts.specs.Pages.{Put, closing, lineEnd, endRoom}
 
 -- words put stand after those before them

@@ -37,7 +37,7 @@ fn join_held(work: &mut [u32], held: usize, out: &mut [u32], words: usize) -> us
     ensures joined { λ r. ⌜ (r ≡ countOf (joinCall (take held (now (work .entry))) (take words (now (out .entry))) (now (out .entry)) .answer)) × (now (out .exit) ≡ joinCall (take held (now (work .entry))) (take words (now (out .entry))) (now (out .entry)) .buffer) ⌝ }
     ensures kept { λ r. ⌜ drop levelWords (now (work .exit)) ≡ drop levelWords (now (work .entry)) ⌝ }
 {
-    reuse_rows::put(work, SUMMARY_WORDS, &out[..words]);
+    reuse_copies::put(work, SUMMARY_WORDS, &out[..words]);
     let end = SUMMARY_WORDS + words;
     let both = &work[..];
     count_of(summary::join(&both[..held], &both[SUMMARY_WORDS..end], out))
@@ -89,7 +89,7 @@ pub fn evaluate(
                 let held = done.words;
                 let here = done.next;
                 let taken = done.taken;
-                reuse_rows::put(work, 0, &out[..held]);
+                reuse_copies::put(work, 0, &out[..held]);
                 let part = evaluate(s, here, inner, log, taken, below, &mut work[LEVEL..], out);
                 let words = join_held(work, held, out, part.words);
                 done = past(part.next, part.closes, part.taken, words);

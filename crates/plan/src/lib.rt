@@ -48,6 +48,6 @@ fn carry_out(text: &[u8], log: &[u32], work: &mut [u32], out: &mut [u32], depth:
         return Written::Refused(6);
     }
     let done = evaluation::evaluate(text, 0, 0, log, 0, depth, work, out);
-    reuse_rows::clear(&mut work[..levels]);
+    reuse_copies::clear(&mut work[..levels]);
     Written::Words(done.words)
 }

@@ -1,6 +1,2 @@
 pub mod Slices
-pub mod Padding
-pub mod Puts
-pub mod Filling
 pub mod Totals
-pub mod Turning

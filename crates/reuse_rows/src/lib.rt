@@ -1,12 +1,11 @@
-// Rows of words: what stands in one, what it adds up to, and words put into one; bytes put into a row of bytes.
+// Rows of words: what stands in one, whether it is all 0, and what it adds up to.
 use reuse::MAX_EXTENTS;
 ghost use mathlib.Core.Path.{_≡_};
-ghost use mathlib.Core.List.{reverse};
 ghost use Prim.Native.Nat.{_*_, _≤_, _^_};
-ghost use lib.ListN.{length, take, replicate};
+ghost use lib.ListN.{length, take};
 ghost use Rattle.reuse.specs.Limits.{maxExtents};
 ghost use Rattle.reuse.specs.Lists.{mem, sum};
-ghost use Rattle.reuse_rows.specs.Rows.{blank, placed, padded};
+ghost use Rattle.reuse_rows.specs.Rows.{blank};
 
 // Whether x stands in the slice. No early exit: the loop is vectorized.
 pub fn contains(s: &[u32], x: u32) -> bool
@@ -23,77 +22,6 @@ pub fn contains(s: &[u32], x: u32) -> bool
     found
 }
 
-// A row of as many words as the limit of extents: these words, as many as fit, and 0 after them.
-pub fn padded(words: &[u32]) -> [u32; MAX_EXTENTS]
-    ensures { λ r. ⌜ r ≡ padded (now (words .entry)) ⌝ }
-{
-    let mut n = words.len();
-    if MAX_EXTENTS < n {
-        n = MAX_EXTENTS;
-    }
-    let mut row = [0u32; MAX_EXTENTS];
-    let mut i: usize = 0;
-    while i < n {
-        row[i] = words[i];
-        i = i + 1;
-    }
-    row
-}
-
-// The same of the words turned round: the last word first.
-pub fn turned(words: &[u32]) -> [u32; MAX_EXTENTS]
-    ensures { λ r. ⌜ r ≡ padded (reverse (now (words .entry))) ⌝ }
-{
-    let count = words.len();
-    let mut most = count;
-    if MAX_EXTENTS < most {
-        most = MAX_EXTENTS;
-    }
-    let mut back = [0u32; MAX_EXTENTS];
-    let mut i: usize = 0;
-    while i < most {
-        back[i] = words[count - 1 - i];
-        i = i + 1;
-    }
-    back
-}
-
-// The words are put to `out` from place `at` on; where they do not fit nothing is written.
-pub fn put(out: &mut [u32], at: usize, words: &[u32])
-    ensures { λ _. ⌜ now (out .exit) ≡ placed (now (out .entry)) at (now (words .entry)) ⌝ }
-{
-    if out.len() < at {
-        return;
-    }
-    if out.len() - at < words.len() {
-        return;
-    }
-    let mut i: usize = 0;
-    while i < words.len() {
-        let to = at + i;
-        out[to] = words[i];
-        i = i + 1;
-    }
-}
-
-// The same for bytes.
-pub fn put_bytes(out: &mut [u8], at: usize, bytes: &[u8])
-    ensures { λ _. ⌜ now (out .exit) ≡ placed (now (out .entry)) at (now (bytes .entry)) ⌝ }
-{
-    if out.len() < at {
-        return;
-    }
-    if out.len() - at < bytes.len() {
-        return;
-    }
-    let mut i: usize = 0;
-    while i < bytes.len() {
-        let to = at + i;
-        out[to] = bytes[i];
-        i = i + 1;
-    }
-}
-
 // Whether all words are 0. No early exit: the loop is vectorized.
 pub fn all_zero(row: &[u32]) -> bool
     ensures { λ r. ⌜ r ≡ blank (now (row .entry)) ⌝ }
@@ -107,17 +35,6 @@ pub fn all_zero(row: &[u32]) -> bool
         i = i + 1;
     }
     clear
-}
-
-// All words become 0.
-pub fn clear(row: &mut [u32])
-    ensures { λ _. ⌜ now (row .exit) ≡ replicate (length (now (row .entry))) 0 ⌝ }
-{
-    let mut at: usize = 0;
-    while at < row.len() {
-        row[at] = 0;
-        at = at + 1;
-    }
 }
 
 // The sum of the words, as many as the limit of extents.

@@ -26,7 +26,7 @@ use Rattle.reuse.proofs.Stack.{stack-law}
 use Rattle.reuse.proofs.Counts.{sum-split}
 use Rattle.reuse.proofs.Words.{reads-words, extents-words, counts-words, length-words}
 use Rattle.reuse.proofs.Misses.{summary-cache}
-use Rattle.reuse_rows.proofs.Padding.{padded-front}
+use Rattle.reuse_copies.proofs.Padding.{padded-front}
 use Rattle.session_marks.proofs.Marks.{row-count}
 use Rattle.session_marks.proofs.Passes.{gathered-pair}
 use Rattle.session_marks.proofs.Search.{pair-of}
@@ -46,11 +46,6 @@ module _ (s : Session) (k : Kept s) where
   -- so is H
   hist-long : length (take (extents s) (s .hist)) ≡ length (firstRow s)
   hist-long = length-hist ∙ sym (length-first s k)
-
-  -- their number is 2 + 3v
-  pub length-session : length (sessionWords s) ≡ 2 + 3 * extents s
-  unfolding sessionWords
-  length-session = length-words (s .reads) (firstRow s) (stackOf s) (take (extents s) (s .hist)) recent-long hist-long ∙ rw (length-first s k)
 
   -- L of them
   pub reads-session : readsOf (sessionWords s) ≡ s .reads

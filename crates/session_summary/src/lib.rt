@@ -21,7 +21,7 @@ pub fn summary(s: Session, out: &mut [u32]) -> Written
     }
     let v = s.sums[ROOT] as usize;
     let marked = session_marks::gather(&s.slots, &s.sums);
-    let recent = reuse_rows::turned(&marked[..v]);
+    let recent = reuse_copies::turned(&marked[..v]);
     let first = s.first;
     let counts = s.hist;
     summary_words::write(s.reads, &first[..v], &recent[..v], &counts[..v], out)

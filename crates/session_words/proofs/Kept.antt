@@ -8,7 +8,7 @@ use lib.ListN.{length, length-replicate}
 use borrow.Author.Tests.{le-leb, lt-leb}
 use Rattle.reuse.specs.Limits.{maxExtents, slotCount, sumCount}
 use Rattle.reuse_rows.specs.Rows.{putAt}
-use Rattle.reuse_rows.proofs.Puts.{put-length}
+use Rattle.reuse_copies.proofs.Puts.{put-length}
 use Rattle.summary_calls.specs.declared.Written.the-variants.{Words}
 use Rattle.summary_calls.specs.Calls.{refused}
 use Rattle.summary_calls.proofs.Calls.{wrote-short, wrote-all}

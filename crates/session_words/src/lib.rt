@@ -32,10 +32,10 @@ fn session_in(words: &[u32]) -> Session
     let mut hist = [0u32; reuse::MAX_EXTENTS];
     let mut slots = [0u32; reuse::SLOTS];
     let mut sums = [0u32; reuse::SUMS];
-    reuse_rows::put(&mut first, 0, &words[FIRST..HIST]);
-    reuse_rows::put(&mut hist, 0, &words[HIST..SLOTS]);
-    reuse_rows::put(&mut slots, 0, &words[SLOTS..SUMS]);
-    reuse_rows::put(&mut sums, 0, &words[SUMS..NEXT]);
+    reuse_copies::put(&mut first, 0, &words[FIRST..HIST]);
+    reuse_copies::put(&mut hist, 0, &words[HIST..SLOTS]);
+    reuse_copies::put(&mut slots, 0, &words[SLOTS..SUMS]);
+    reuse_copies::put(&mut sums, 0, &words[SUMS..NEXT]);
     let reads = words[0];
     let next = words[NEXT];
     Session {
@@ -54,10 +54,10 @@ fn put_session(words: &mut [u32], s: Session)
     ensures { λ _. ⌜ now (words .exit) ≡ putAt (now (words .entry)) 0 (sessionLaid s) ⌝ }
 {
     words[0] = s.reads;
-    reuse_rows::put(words, FIRST, &s.first);
-    reuse_rows::put(words, HIST, &s.hist);
-    reuse_rows::put(words, SLOTS, &s.slots);
-    reuse_rows::put(words, SUMS, &s.sums);
+    reuse_copies::put(words, FIRST, &s.first);
+    reuse_copies::put(words, HIST, &s.hist);
+    reuse_copies::put(words, SLOTS, &s.slots);
+    reuse_copies::put(words, SUMS, &s.sums);
     words[NEXT] = s.next;
 }
 

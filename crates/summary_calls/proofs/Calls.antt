@@ -16,13 +16,6 @@ use Rattle.summary_calls.specs.declared.Written.the-variants.{Words}
 use Rattle.summary_calls.specs.Calls.{wrote, joinCall, traceCall, refused}
 use Rattle.reuse_rows.specs.Rows.{putAt}
 
--- the words of a join are 2 + 3v
-pub join-length : (a b : List ℕ) → wellFormed a ≡ true → wellFormed b ≡ true → length (joinOf a b) ≡ 2 + 3 * length (joinedFirst a b)
-unfolding joinOf
-join-length a b ha hb =
-    (length-words (readsOf a + readsOf b) (joinedFirst a b) (joinedRecent a b) (joinedCounts a b)
-    (joined-length a b (formed a ha) (formed b hb)) (unfold joinedCounts in simp (length-map, length-from)))
-
 -- words for which there is no room
 pub wrote-short : (w out : List ℕ) → length out < length w → wrote w out ≡ refused 6 out
 unfolding wrote

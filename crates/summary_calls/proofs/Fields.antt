@@ -97,11 +97,6 @@ module _ (w : List ℕ) (h : wellFormed w ≡ true) where
   unfolding extentsOf
   counts-size = counts-length w (formed w h .long)
 
-  -- F has v words
-  pub first-size : length (firstOf w) ≡ getD w 1 0
-  unfolding extentsOf
-  first-size = first-length w (formed w h .long)
-
   -- all of H for a size of at least v
   pub hits-all : (c : ℕ) → getD w 1 0 ≤ c → hitsOf w c ≡ sum (countsOf w)
   unfolding hitsOf

@@ -14,7 +14,7 @@ use Rattle.reuse.proofs.Sums.{at-le-sum}
 use Rattle.reuse.proofs.Words.{first-length}
 use Rattle.reuse.proofs.Formed.{formed, recent-distinct, join-distances, joined-stack}
 use Rattle.reuse_rows.specs.Rows.{padded}
-use Rattle.reuse_rows.proofs.Padding.{padded-front, padded-length, padded-word}
+use Rattle.reuse_copies.proofs.Padding.{padded-front, padded-length, padded-word}
 use Rattle.reuse_engine.specs.Counting.{Counted}
 use Rattle.summary_calls.specs.Shapes.{Given}
 use Rattle.summary_calls.proofs.Fields.{recent-few, counts-few}

@@ -10,8 +10,8 @@ ghost use Rattle.summary_cross.specs.Crossing.{added, crossed};
 pub fn counts(recent: &[u32], first: &[u32], before: &[u32], after: &[u32]) -> [u32; MAX_EXTENTS]
     ensures { λ r. ⌜ r ≡ crossed (padded (now (recent .entry))) (length (now (recent .entry))) (now (first .entry)) (added (padded (now (before .entry))) (now (after .entry))) ⌝ }
 {
-    let mut stack = reuse_rows::padded(recent);
-    let mut hist = reuse_rows::padded(before);
+    let mut stack = reuse_copies::padded(recent);
+    let mut hist = reuse_copies::padded(before);
     add(&mut hist, after);
     cross(&mut stack, recent.len(), first, &mut hist);
     hist

@@ -13,8 +13,8 @@ use Rattle.reuse.specs.Lists.{mem, outside}
 use Rattle.reuse.proofs.Lists.{by-test}
 use Rattle.reuse_rows.specs.Rows.{putAt, padded}
 use Rattle.reuse_rows.proofs.Slices.{next-word}
-use Rattle.reuse_rows.proofs.Puts.{put-none, put-cons}
-use Rattle.reuse_rows.proofs.Padding.{padded-more}
+use Rattle.reuse_copies.proofs.Puts.{put-none, put-cons}
+use Rattle.reuse_copies.proofs.Padding.{padded-more}
 use Rattle.summary_join.specs.Joining.{beside}
 
 -- the words passed that do not stand in s are put; what is left is still to be put, as far as there is room

@@ -12,7 +12,7 @@ use Rattle.reuse.proofs.Lists.{firsts-append}
 use Rattle.reuse.proofs.Distinct.{firsts-distinct}
 use Rattle.reuse.proofs.Formed.{formed, joined-length}
 use Rattle.reuse_rows.specs.Rows.{padded}
-use Rattle.reuse_rows.proofs.Padding.{padded-front}
+use Rattle.reuse_copies.proofs.Padding.{padded-front}
 use Rattle.summary_calls.specs.Shapes.{Given}
 use Rattle.summary_calls.specs.Calls.{wordsCall, wrote}
 use Rattle.summary_calls.proofs.Fields.{front-part}

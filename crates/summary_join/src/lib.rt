@@ -99,7 +99,7 @@ fn beside(words: &[u32], more: &[u32]) -> [u32; MAX_EXTENTS]
     ensures { λ r. ⌜ r ≡ padded (beside (now (words .entry)) (now (more .entry))) ⌝ }
 {
     let table = reuse_tables::hints(words);
-    let mut row = reuse_rows::padded(words);
+    let mut row = reuse_copies::padded(words);
     let mut n = words.len();
     let mut i: usize = 0;
     while i < more.len() {

@@ -6,8 +6,8 @@ use mathlib.Core.List.{List, [], _∷_, _++_, append-assoc}
 use lib.ListN.{length, set}
 use Rattle.reuse.specs.Summary.{words}
 use Rattle.reuse_rows.specs.Rows.{putAt, placed}
-use Rattle.reuse_rows.proofs.Puts.{placed-fits}
-use Rattle.reuse_rows.proofs.Filling.{Filled, fill-start, fill-step, filled-length}
+use Rattle.reuse_copies.proofs.Puts.{placed-fits}
+use Rattle.reuse_copies.proofs.Filling.{Filled, fill-start, fill-step, filled-length}
 use Rattle.summary_words.specs.Parts.{Writable}
 
 -- one part more, where there is room for it

@@ -37,7 +37,7 @@ fn put_parts(reads: u32, first: &[u32], recent: &[u32], counts: &[u32], out: &mu
     out[1] = first.len() as u32;
     let after_first = 2 + first.len();
     let after_recent = after_first + recent.len();
-    reuse_rows::put(out, 2, first);
-    reuse_rows::put(out, after_first, recent);
-    reuse_rows::put(out, after_recent, counts);
+    reuse_copies::put(out, 2, first);
+    reuse_copies::put(out, after_first, recent);
+    reuse_copies::put(out, after_recent, counts);
 }

@@ -7,7 +7,7 @@ use mathlib.Core.Bool.{true, false, true≢false, false≢true}
 use lib.ListN.{length}
 use borrow.Author.Tests.{le-leb, lt-leb}
 use Rattle.reuse_rows.specs.Rows.{putAt}
-use Rattle.reuse_rows.proofs.Puts.{put-length}
+use Rattle.reuse_copies.proofs.Puts.{put-length}
 use Rattle.summary_calls.specs.declared.Written.the-variants.{Words}
 use Rattle.summary_calls.specs.declared.MissCount.the-variants.{Refused as NoMisses}
 use Rattle.summary_calls.specs.declared.ShareAnswer.the-variants.{Refused as NoShare}

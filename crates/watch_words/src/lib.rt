@@ -34,7 +34,7 @@ fn put_watch(words: &mut [u32], w: Watch)
     ensures { λ _. ⌜ now (words .exit) ≡ putAt (now (words .entry)) 0 (watchLaid w) ⌝ }
 {
     let row = [w.size, w.reads, w.cold, w.hits];
-    reuse_rows::put(words, 0, &row);
+    reuse_copies::put(words, 0, &row);
 }
 
 // A distance as the buffer of distances writes it, 0 for cold.

@@ -5,7 +5,7 @@ use native.Mathlib.Omega.{arith}
 use lib.ListN.{length, take}
 use lib.Seq.{length-take-le}
 use Rattle.reuse_rows.specs.Rows.{putAt}
-use Rattle.reuse_rows.proofs.Puts.{placed-fits}
+use Rattle.reuse_copies.proofs.Puts.{placed-fits}
 use Rattle.summary_calls.specs.Calls.{Wrote}
 use Rattle.texts.specs.Logs.{logOf}
 use Rattle.listing_texts.specs.declared.Verdict.the-variants.{Listed}

@@ -5,7 +5,7 @@ use native.Mathlib.Omega.{arith}
 use mathlib.Core.Logic.{⊎-elim}
 use lib.ListN.{length}
 use borrow.Author.Tests.{not-true, not-false}
-use Rattle.reuse_rows.proofs.Padding.{padded-wide}
+use Rattle.reuse_copies.proofs.Padding.{padded-wide}
 use Rattle.reuse_tables.proofs.Lookups.{looked-up}
 use Rattle.summary_join.proofs.Besides.{Besides, beside-start, beside-more, beside-known, beside-full, beside-end}
 use borrow.Author.Needs.{needs}

@@ -1,6 +1,6 @@
 -- `watch_words::put_watch` meets its contract.
 use mathlib.Core.Path.{_∙_}
-use Rattle.reuse_rows.proofs.Puts.{placed-fits}
+use Rattle.reuse_copies.proofs.Puts.{placed-fits}
 use Rattle.watch_words.specs.Layout.{watchLaid}
 use borrow.Author.Needs.{needs}
 use Rattle.watch_words.proofs.put_watch.Statement.{statement}

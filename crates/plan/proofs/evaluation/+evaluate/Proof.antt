@@ -7,7 +7,7 @@ use lib.ListN.{length, take, drop}
 use lib.Seq.{length-take-le}
 use borrow.Rule.Slice.PartMut.{putMid, midOf}
 use Rattle.reuse.specs.Lists.{firsts}
-use Rattle.reuse_rows.proofs.Puts.{placed-fits}
+use Rattle.reuse_copies.proofs.Puts.{placed-fits}
 use Rattle.summary_calls.specs.Calls.{Wrote, traceCall}
 use Rattle.texts.specs.Plans.{reads}
 use Rattle.texts.specs.PlanPlaces.{segAt, joinAt, lineAt}
@@ -28,7 +28,7 @@ use Rattle.plan.proofs.evaluation.join_held.Reads as join-held-reads
 use Rattle.plan.proofs.evaluation.past.Reads as past-reads
 use Rattle.summary_trace.proofs.of_trace.Reads as of-trace-reads
 use Rattle.plan_lines.proofs.line_at.Reads as line-at-reads
-use Rattle.reuse_rows.proofs.put.Reads as put-reads
+use Rattle.reuse_copies.proofs.put.Reads as put-reads
 use Rattle.plan.proofs.evaluation.+evaluate.{statement}
 use Rattle.plan.proofs.evaluation.+evaluate.Tie.{close}
 

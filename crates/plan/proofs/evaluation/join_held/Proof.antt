@@ -6,7 +6,7 @@ use mathlib.Core.List.{List}
 use lib.ListN.{take}
 use lib.Seq.{length-take-le}
 use borrow.Rule.Slice.PartMut.{midOf}
-use Rattle.reuse_rows.proofs.Puts.{placed-fits}
+use Rattle.reuse_copies.proofs.Puts.{placed-fits}
 use Rattle.summary_calls.specs.Calls.{joinCall, Wrote}
 use Rattle.plan.specs.Evaluation.{countOf}
 use Rattle.plan.proofs.Levels.{laid}

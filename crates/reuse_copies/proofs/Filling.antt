@@ -4,8 +4,8 @@ use Prim.Native.Nat.{ℕ, _+_, _≤_}
 use native.Mathlib.Omega.{arith}
 use mathlib.Core.List.{List, [], _∷_, _++_}
 use lib.ListN.{length, set, length-append, length-set}
 use Rattle.reuse_rows.specs.Rows.{putAt}
-use Rattle.reuse_rows.proofs.Puts.{put-length, put-append, put-cons, put-none}
+use Rattle.reuse_copies.proofs.Puts.{put-length, put-append, put-cons, put-none}
 
 -- the words l stand at the front, and n is the place after them
 pub record Filled (out l row : List ℕ) (n : ℕ) : Type 0 where

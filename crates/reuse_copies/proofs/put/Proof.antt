@@ -1,12 +1,12 @@
--- `reuse_rows::put` meets its contract. The invariant is `Copying`.
+-- `reuse_copies::put` meets its contract. The invariant is `Copying`.
 use mathlib.Core.Path.{sym}
 use Prim.Native.Nat.{_-_}
 use native.Mathlib.Omega.{arith}
 use lib.ListN.{length}
-use Rattle.reuse_rows.proofs.Puts.{placed-not, Copying, copy-start, copy-turn, copy-end}
+use Rattle.reuse_copies.proofs.Puts.{placed-not, Copying, copy-start, copy-turn, copy-end}
 use borrow.Author.Needs.{needs}
-use Rattle.reuse_rows.proofs.put.Statement.{statement}
-use Rattle.reuse_rows.proofs.put.Tie as tie
+use Rattle.reuse_copies.proofs.put.Statement.{statement}
+use Rattle.reuse_copies.proofs.put.Tie as tie
 
 abbrev Inv-loop : tie.InvT-loop
 Inv-loop out₀ at words i₀ out i = Copying out₀ at words out i

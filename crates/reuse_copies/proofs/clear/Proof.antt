@@ -1,4 +1,4 @@
--- `reuse_rows::clear` meets its contract.
+-- `reuse_copies::clear` meets its contract.
 use Prim.Native.Nat.{ℕ, _-_, _≤_}
 use mathlib.Core.Path.{_≡_, refl, ap, _∙_}
 use native.Mathlib.Omega.{arith}
@@ -6,8 +6,8 @@ use mathlib.Core.List.{List, _++_, append-nil}
 use lib.ListN.{length, drop, set, replicate, drop-of-length-le}
 use borrow.Author.Fill.{fill-none, fill-more}
 use borrow.Author.Needs.{needs}
-use Rattle.reuse_rows.proofs.clear.Statement.{statement}
-use Rattle.reuse_rows.proofs.clear.Tie as tie
+use Rattle.reuse_copies.proofs.clear.Statement.{statement}
+use Rattle.reuse_copies.proofs.clear.Tie as tie
 
 abbrev Inv-loop : tie.InvT-loop
 Inv-loop row₀ at₀ row at = (at ≤ length row₀) × (length row ≡ length row₀) × (row ≡ replicate at 0 ++ drop at row₀)

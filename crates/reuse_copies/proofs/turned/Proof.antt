@@ -1,15 +1,15 @@
--- `reuse_rows::turned` meets its contract. The invariant is `Laying`, of the words turned round.
+-- `reuse_copies::turned` meets its contract. The invariant is `Laying`, of the words turned round.
 use mathlib.Core.List.{reverse}
 use Prim.Native.Nat.{_-_}
 use native.Mathlib.Omega.{arith}
 use mathlib.Core.Logic.{⊎-elim}
 use lib.ListN.{length-reverse}
 use Rattle.reuse_rows.specs.Rows.{padded}
-use Rattle.reuse_rows.proofs.Padding.{Laying, lay-start, lay-end}
-use Rattle.reuse_rows.proofs.Turning.{lay-back}
+use Rattle.reuse_copies.proofs.Padding.{Laying, lay-start, lay-end}
+use Rattle.reuse_copies.proofs.Turning.{lay-back}
 use borrow.Author.Needs.{needs}
-use Rattle.reuse_rows.proofs.turned.Statement.{statement}
-use Rattle.reuse_rows.proofs.turned.Tie as tie
+use Rattle.reuse_copies.proofs.turned.Statement.{statement}
+use Rattle.reuse_copies.proofs.turned.Tie as tie
 
 abbrev Inv-loop : tie.InvT-loop
 Inv-loop words count most back₀ i₀ back i = Laying (reverse words) back₀ most back i

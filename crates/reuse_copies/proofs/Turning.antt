@@ -6,7 +6,7 @@ use native.Mathlib.Decide.{decLt}
 use mathlib.Core.List.{List, [], _∷_, _++_, reverse, reverse-cons}
 use lib.ListN.{length, getD, set, length-reverse, List·getD-append}
 use lib.Seq.{getD-append-add}
-use Rattle.reuse_rows.proofs.Padding.{Laying, lay-turn}
+use Rattle.reuse_copies.proofs.Padding.{Laying, lay-turn}
 
 -- a word of a list turned round
 turned-at : (l : List ℕ) (i : ℕ) → i < length l → getD (reverse l) i 0 ≡ getD l (length l - 1 - i) 0

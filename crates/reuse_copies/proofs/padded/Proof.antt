@@ -1,12 +1,12 @@
--- `reuse_rows::padded` meets its contract. The invariant is `Laying`.
+-- `reuse_copies::padded` meets its contract. The invariant is `Laying`.
 use Prim.Native.Nat.{_-_}
 use native.Mathlib.Omega.{arith}
 use mathlib.Core.Logic.{⊎-elim}
 use Rattle.reuse_rows.specs.Rows.{padded}
-use Rattle.reuse_rows.proofs.Padding.{Laying, lay-start, lay-turn, lay-end}
+use Rattle.reuse_copies.proofs.Padding.{Laying, lay-start, lay-turn, lay-end}
 use borrow.Author.Needs.{needs}
-use Rattle.reuse_rows.proofs.padded.Statement.{statement}
-use Rattle.reuse_rows.proofs.padded.Tie as tie
+use Rattle.reuse_copies.proofs.padded.Statement.{statement}
+use Rattle.reuse_copies.proofs.padded.Tie as tie
 
 abbrev Inv-loop : tie.InvT-loop
 Inv-loop words n row₀ i₀ row i = Laying words row₀ n row i

@@ -1,0 +1,4 @@
+pub mod Padding
+pub mod Puts
+pub mod Filling
+pub mod Turning
