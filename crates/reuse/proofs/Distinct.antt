@@ -6,7 +6,7 @@ use mathlib.Core.Bool.{true, false, not, _&&_, or-true, and-false}
 use lib.Dec.{eqb}
 use lib.ListN.{length}
 use borrow.Author.Tests.{eqb-true, eq-eqb, not-true}
-use Rattle.reuse.specs.Lists.{mem, remove, cleanup, firsts, distinct, outside}
+use Rattle.reuse.specs.Lists.{mem, remove, cleanup, firsts, distinct, outside, beside}
 use Rattle.reuse.proofs.Lists.{by-test, clash, both, eqb-same, eqb-sym, mem-append, mem-outside, mem-remove, mem-firsts, mem-cleanup, mem-reverse, remove-outside, remove-absent, mem-head, mem-tail}
 
 -- the head of a distinct list is not in its tail
@@ -41,7 +41,7 @@ distinct-append (x ∷ a) b d e h =
     (distinct-append a b (distinct-tail x a d) e (λ z m. h z (mem-tail z x a m)))
 
 -- a distinct list, then what another has besides
-pub distinct-beside : (a b : List ℕ) → distinct a ≡ true → distinct b ≡ true → distinct (a ++ outside a b) ≡ true
+pub distinct-beside : (a b : List ℕ) → distinct a ≡ true → distinct b ≡ true → distinct (beside a b) ≡ true
 distinct-beside a b d e = distinct-append a (outside a b) d (distinct-outside a b e) (λ x m. simp (mem-outside, m))
 
 -- removal makes no repeats

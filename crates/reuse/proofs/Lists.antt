@@ -7,7 +7,7 @@ use mathlib.Core.Bool.{Bool, true, false, cond, not, _&&_, _||_, or-true, or-fal
 use lib.Dec.{eqb}
 use lib.ListN.{length, getD, length-append}
 use borrow.Author.Tests.{eqb-true, eqb-false, eq-eqb, ne-eqb}
-use Rattle.reuse.specs.Lists.{mem, remove, cleanup, firsts, inside, outside}
+use Rattle.reuse.specs.Lists.{mem, remove, cleanup, firsts, inside, outside, beside}
 
 -- a proof by the two answers of a test
 pub by-test : {G : Type 0} (b : Bool) → (b ≡ true → G) → (b ≡ false → G) → G
@@ -71,7 +71,7 @@ mem-outside x a (y ∷ s) =
     (λ e. by-test (mem y a) (λ m. simp (m, e, mem-outside x a s)) (λ m. simp (m, e, mem-outside x a s)))
 
 -- one list, then what another has besides
-pub mem-beside : (x : ℕ) (a b : List ℕ) → mem x (a ++ outside a b) ≡ mem x a || mem x b
+pub mem-beside : (x : ℕ) (a b : List ℕ) → mem x (beside a b) ≡ mem x a || mem x b
 mem-beside x a b = simp (mem-append, mem-outside) (by-test (mem x a) (λ e. simp e) (λ e. simp e))
 
 -- two lists end to end, outside a

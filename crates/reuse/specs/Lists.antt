@@ -1,6 +1,6 @@
 -- Lists of extents and of numbers: membership, removal, the two ways to drop repeats, counts and sums.
 use Prim.Native.Nat.{ℕ, zero, suc, _+_}
-use mathlib.Core.List.{List, [], _∷_}
+use mathlib.Core.List.{List, [], _∷_, _++_}
 use mathlib.Core.Bool.{Bool, true, false, cond, not, _&&_, _||_}
 use lib.Dec.{eqb}
 
@@ -33,6 +33,10 @@ inside a (x ∷ xs) = cond (mem x a) (x ∷ inside a xs) (inside a xs)
 unfoldable pub outside : List ℕ → List ℕ → List ℕ
 outside a [] = []
 outside a (x ∷ xs) = cond (mem x a) (outside a xs) (x ∷ outside a xs)
+
+-- a list, then the members of another that do not stand in it
+abbrev pub beside : List ℕ → List ℕ → List ℕ
+beside s t = s ++ outside s t
 
 -- the members that stand before the first p; all of them where there is no p
 unfoldable pub before : ℕ → List ℕ → List ℕ

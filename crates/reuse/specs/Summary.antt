@@ -5,7 +5,7 @@ use mathlib.Core.Bool.{Bool, _&&_}
 use lib.Dec.{eqb, leb}
 use lib.ListN.{length, take, drop, getD}
 use Rattle.reuse.specs.Limits.{maxReads, maxExtents}
-use Rattle.reuse.specs.Lists.{allIn, distinct, inside, outside, before, firsts, cleanup, from, sum, count}
+use Rattle.reuse.specs.Lists.{allIn, distinct, inside, beside, before, firsts, cleanup, from, sum, count}
 use Rattle.reuse.specs.Lru.{reuses, countAt}
 
 -- a summary's words from its parts: the reads L, the number v of extents, F, R and H
@@ -61,11 +61,11 @@ missesOf w c = extentsOf w + sum (drop c (countsOf w))
 
 -- F of the join: F of A, then those of F of B not in A
 unfoldable pub joinedFirst : List ℕ → List ℕ → List ℕ
-joinedFirst a b = firstOf a ++ outside (firstOf a) (firstOf b)
+joinedFirst a b = beside (firstOf a) (firstOf b)
 
 -- R of the join: R of B, then those of R of A not in B
 unfoldable pub joinedRecent : List ℕ → List ℕ → List ℕ
-joinedRecent a b = recentOf b ++ outside (recentOf b) (recentOf a)
+joinedRecent a b = beside (recentOf b) (recentOf a)
 
 -- the extents of both
 unfoldable pub shared : List ℕ → List ℕ → List ℕ

@@ -17,7 +17,7 @@ use Rattle.session.specs.declared.Answer.the-variants.{Distance, Refused
 use Rattle.session_sums.specs.Sums.{neighbours}
 use Rattle.session.specs.Sessions.{marks, extents, stackOf, sound}
 use Rattle.session.specs.Reads.{roomed, slotOf, stepAt, taken, turnedAway, tooMany, readOf}
-use Rattle.session_marks.specs.Soundness.{Wide}
+use Rattle.session_soundness.specs.Soundness.{Wide}
 use Rattle.reuse.proofs.Lists.{by-test, both}
 use Rattle.reuse.proofs.Stack.{mem-stack}
 use Rattle.session_sums.proofs.Tree.{full}

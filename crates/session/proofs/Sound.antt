@@ -10,13 +10,13 @@ use Rattle.reuse.specs.Lists.{mem, sum}
 use Rattle.reuse.specs.Limits.{maxReads, maxExtents, slotCount, levels}
 use Rattle.session_sums.specs.Sums.{sumsOf, Trued}
 use Rattle.session_marks.specs.Marks.{marked}
-use Rattle.session_marks.specs.Soundness.{Wide}
+use Rattle.session_soundness.specs.Soundness.{Wide}
 use Rattle.session.specs.declared.Session.{Session}
 use Rattle.session.specs.Sessions.{fresh, marks, extents, stackOf, firstRow, sound}
 use Rattle.session_sums.proofs.Tree.{leaves, full, take-sums, sums-zeros, trued-of, trued-wide}
 use Rattle.session_marks.proofs.Marks.{row-length, row-count}
 use Rattle.session_marks.proofs.Rows.{Rows, rows-new}
-use Rattle.session_marks.proofs.Sound as fields
+use Rattle.session_soundness.proofs.Sound as fields
 
 -- a session's rows are sound, and its sums are true
 pub record Kept (s : Session) : Type 0 where

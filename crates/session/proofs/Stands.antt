@@ -15,7 +15,7 @@ use Rattle.reuse.specs.Summary.{histogram, countFor}
 use Rattle.reuse.specs.Limits.{maxReads, maxExtents, slotCount}
 use Rattle.session.specs.declared.Session.{Session}
 use Rattle.session_marks.specs.Marks.{marked}
-use Rattle.session_marks.specs.Soundness.{Wide}
+use Rattle.session_soundness.specs.Soundness.{Wide}
 use Rattle.session.specs.Sessions.{fresh, marks, extents, stackOf, firstRow, sound}
 use Rattle.session.specs.Reads.{roomed, moved, entered, taken}
 use Rattle.reuse.proofs.Lists.{by-test, firsts-known, firsts-new}

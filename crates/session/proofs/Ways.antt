@@ -5,23 +5,24 @@ use mathlib.Core.Bool.{true, false}
 use native.Mathlib.Omega.{arith}
 use lib.Dec.{eqb}
 use lib.ListN.{drop, getD}
-use borrow.Author.Tests.{eq-eqb, ne-eqb, eqb-false}
+use borrow.Author.Tests.{ne-eqb, eqb-false}
 use Rattle.reuse.specs.Lists.{mem, sum}
 use Rattle.reuse.specs.Lru.{cold, at}
 use Rattle.reuse.specs.Limits.{maxReads, maxExtents, slotCount}
 use Rattle.session.specs.declared.Session.{Session}
 use Rattle.session.specs.Sessions.{marks, extents, stackOf, sound}
 use Rattle.session.specs.Reads.{slotOf, stepAt, taken, turnedAway, tooMany, readOf}
-use Rattle.session_marks.specs.Marks.{foundSlot}
-use Rattle.session_marks.specs.Soundness.{Wide, Searched, intactRows}
+use Rattle.session_marks.specs.Marks.{foundSlot, Searched}
+use Rattle.session_soundness.specs.Soundness.{Wide, intactRows}
+use Rattle.session_refusals.specs.Refusals.{overfull, refusalOf}
 use Rattle.session.specs.Steps.{Movable, Enterable, Gatherable}
 use Rattle.reuse.proofs.Lists.{by-test}
 use Rattle.reuse.proofs.Depth.{depth-absent}
 use Rattle.reuse.proofs.Sums.{at-le-sum, sum-drop, sum-drop-le}
 use Rattle.session_marks.proofs.Marks.{row-tidy, slot-absent, slot-marked}
 use Rattle.session_marks.proofs.Search.{found-slot}
-use Rattle.session_marks.proofs.Sound.{intact-wide}
-use Rattle.session.proofs.Sound.{Kept, root, true-sound, rows-of, kept-wide, kept-trued, kept-few, kept-root}
+use Rattle.session_soundness.proofs.Sound.{intact-wide}
+use Rattle.session.proofs.Sound.{Kept, true-sound, rows-of, kept-wide, kept-trued, kept-few}
 use Rattle.session.proofs.Taken.{Roomed, stack-mem, slot-below, slot-depth}
 
 module _ (s : Session) (k : Kept s) where
@@ -84,76 +85,84 @@ pub tested : (s : Session) → Wide (s .first) (s .hist) (s .slots) (s .sums) �
 unfolding sound
 tested s w = intact-wide (s .reads) (s .first) (s .hist) (s .slots) (s .sums) (s .next) w
 
--- a session that is not sound
-pub bad-way : (s : Session) (x : ℕ) → sound s ≡ false → turnedAway s 7 ≡ readOf s x
-unfolding readOf
-bad-way s x e = rw e
+-- one extent too many, by the session's fields
+over : (s : Session) (x : ℕ) → overfull (s .slots) (s .sums) x ≡ tooMany s x
+unfolding overfull tooMany stackOf extents marks
+over s x = refl
 
--- the root is at most 256
-pub root-few : (s : Session) → Kept s → root s ≤ maxExtents
-root-few s k = omega (arith, kept-root s k, kept-few s k)
+-- what refuses a read of x
+abbrev refusal : Session → ℕ → ℕ
+refusal s x = refusalOf (s .reads) (s .first) (s .hist) (s .slots) (s .sums) (s .next) x
 
-module _ (s : Session) (w : Wide (s .first) (s .hist) (s .slots) (s .sums)) (ok : sound s ≡ true) where
-  -- the rows of s
-  rows : Kept s
-  rows = rows-of s w ok
+-- what is known of a session that accepts a read of x
+pub record Accepted (s : Session) (x : ℕ) : Type 0 where
+  pub ok : sound s ≡ true
+  pub short : s .reads ≡ maxReads → ⊥
+  pub few : tooMany s x ≡ false
 
-  module _ (x : ℕ) where
-    -- a read too many
-    pub full-way : s .reads ≡ maxReads → turnedAway s 8 ≡ readOf s x
+module _ (s : Session) (w : Wide (s .first) (s .hist) (s .slots) (s .sums)) (x : ℕ) where
+  -- a read that is refused
+  pub refused-way : (n : ℕ) → n ≡ refusal s x → (n ≡ 0 → ⊥) → turnedAway s n ≡ readOf s x
+  unfolding readOf refusalOf
+  refused-way n e z =
+      ap (turnedAway s) e ∙
+      by-test (sound s)
+      (λ ok. by-test (eqb (s .reads) maxReads)
+      (λ r. simp (tested s w, ok, r))
+      (λ r. by-test (tooMany s x)
+      (λ m. simp (tested s w, ok, r, over s x, m))
+      (λ m. absurd (z (e ∙ simp (tested s w, ok, r, over s x, m))))))
+      (λ bad. simp (tested s w, bad))
+
+  -- a read that is not
+  pub accepts : refusal s x ≡ 0 → Accepted s x
+  unfolding refusalOf
+  accepts e =
+      by-test (sound s)
+      (λ ok. by-test (eqb (s .reads) maxReads)
+      (λ r. let z : _≡_ {A = ℕ} 8 0 = simp (tested s w, ok, r) at e in absurd (omega arith))
+      (λ r. by-test (tooMany s x)
+      (λ m. let z : _≡_ {A = ℕ} 9 0 = simp (tested s w, ok, r, over s x, m) at e in absurd (omega arith))
+      (λ m. record { ok = ok; short = eqb-false (s .reads) maxReads r; few = m })))
+      (λ bad. let z : _≡_ {A = ℕ} 7 0 = simp (tested s w, bad) at e in absurd (omega arith))
+
+  -- σ is s with room, and k is the slot of x in it
+  module _ (a : Accepted s x) (σ : Session) (k : ℕ) (m : Roomed s σ) (at-k : k ≡ slotOf σ x) where
+    -- the reads are within the limit
+    left : σ .reads < maxReads
+    left = omega (arith, m .reads, true-sound s w (a .ok) .short, a .short)
+
+    -- an accepted read
+    taken-is : taken σ x ≡ readOf s x
     unfolding readOf
-    full-way e = rw (ok, eq-eqb (s .reads) maxReads e)
+    taken-is = rw (a .ok, ne-eqb (s .reads) maxReads (a .short), a .few, m .is)
 
-    -- an extent too many
-    pub many-way : (s .reads ≡ maxReads → ⊥) → slotOf s x ≡ slotCount → root s ≡ maxExtents → turnedAway s 9 ≡ readOf s x
-    unfolding readOf tooMany
-    many-way n e v =
-        rw (ok, ne-eqb (s .reads) maxReads n, not-held s rows x e, eq-eqb (extents s) maxExtents (sym (kept-root s rows) ∙ v))
+    -- the mark of a known extent can move
+    pub moves : (k ≡ slotCount → ⊥) → Movable σ x k
+    moves h = rw at-k (movable σ (m .kept) x (m .room) left (is-held σ (m .kept) x (λ e. h (at-k ∙ e))))
 
-    -- not one extent too many
-    pub enough : (slotOf s x ≡ slotCount → root s ≡ maxExtents → ⊥) → tooMany s x ≡ false
+    -- a read of a known extent
+    pub known-way : (k ≡ slotCount → ⊥) → stepAt σ x (at (suc (sum (drop (suc k) (marks σ))))) ≡ readOf s x
+    known-way h =
+        let old : taken σ x ≡ stepAt σ x (at (suc (sum (drop (suc (slotOf σ x)) (marks σ))))) =
+        unfold taken in rw (slot-depth σ (m .kept) x (is-held σ (m .kept) x (λ e. h (at-k ∙ e)))) in
+        rw at-k (sym old ∙ taken-is)
+
+    -- a new extent can have a mark
+    pub enters : k ≡ slotCount → Enterable σ
     unfolding tooMany
-    enough h =
-        by-test (mem x (stackOf s)) (λ t. rw t)
-        (λ f. rw (f, ne-eqb (extents s) maxExtents (λ e. h (no-slot s rows x f) (kept-root s rows ∙ e))))
+    enters e =
+        let new : mem x (stackOf s) ≡ false = ap (mem x) (sym (m .stacked)) ∙ not-held σ (m .kept) x (sym at-k ∙ e) in
+        let f : eqb (extents s) maxExtents ≡ false = simp new at (a .few) in
+        record {
+          room = m .room;
+          trued = kept-trued σ (m .kept);
+          few = omega (arith, m .counted, kept-few s (rows-of s w (a .ok)), eqb-false (extents s) maxExtents f);
+          short = left;
+        }
 
-    -- σ is s with room, and k is the slot of x in it
-    module _ (σ : Session) (k : ℕ) (m : Roomed s σ) (at-k : k ≡ slotOf σ x) (n : s .reads ≡ maxReads → ⊥) (few : tooMany s x ≡ false) where
-      -- the reads are within the limit
-      left : σ .reads < maxReads
-      left = omega (arith, m .reads, true-sound s w ok .short, n)
-
-      -- an accepted read
-      taken-is : taken σ x ≡ readOf s x
-      unfolding readOf
-      taken-is = rw (ok, ne-eqb (s .reads) maxReads n, few, m .is)
-
-      -- the mark of a known extent can move
-      pub moves : (k ≡ slotCount → ⊥) → Movable σ x k
-      moves h = rw at-k (movable σ (m .kept) x (m .room) left (is-held σ (m .kept) x (λ e. h (at-k ∙ e))))
-
-      -- a read of a known extent
-      pub known-way : (k ≡ slotCount → ⊥) → stepAt σ x (at (suc (sum (drop (suc k) (marks σ))))) ≡ readOf s x
-      known-way h =
-          let old : taken σ x ≡ stepAt σ x (at (suc (sum (drop (suc (slotOf σ x)) (marks σ))))) =
-          unfold taken in rw (slot-depth σ (m .kept) x (is-held σ (m .kept) x (λ e. h (at-k ∙ e)))) in
-          rw at-k (sym old ∙ taken-is)
-
-      -- a new extent can have a mark
-      pub enters : k ≡ slotCount → Enterable σ
-      unfolding tooMany
-      enters e =
-          let new : mem x (stackOf s) ≡ false = ap (mem x) (sym (m .stacked)) ∙ not-held σ (m .kept) x (sym at-k ∙ e) in
-          let f : eqb (extents s) maxExtents ≡ false = simp new at few in
-          record {
-            room = m .room;
-            trued = kept-trued σ (m .kept);
-            few = omega (arith, m .counted, kept-few s rows, eqb-false (extents s) maxExtents f);
-            short = left;
-          }
-
-      -- a read of a new extent
-      pub cold-way : k ≡ slotCount → stepAt σ x cold ≡ readOf s x
-      cold-way e =
-          let new : taken σ x ≡ stepAt σ x cold = unfold taken in rw (depth-absent x (stackOf σ) (not-held σ (m .kept) x (sym at-k ∙ e))) in
-          sym new ∙ taken-is
+    -- a read of a new extent
+    pub cold-way : k ≡ slotCount → stepAt σ x cold ≡ readOf s x
+    cold-way e =
+        let new : taken σ x ≡ stepAt σ x cold = unfold taken in rw (depth-absent x (stackOf σ) (not-held σ (m .kept) x (sym at-k ∙ e))) in
+        sym new ∙ taken-is

@@ -6,7 +6,7 @@ use lib.ListN.{take, replicate}
 use Rattle.reuse.specs.Lists.{sum}
 use Rattle.reuse.specs.Limits.{maxExtents, slotCount, sumCount}
 use Rattle.session_marks.specs.Marks.{marked}
-use Rattle.session_marks.specs.Soundness.{soundRows}
+use Rattle.session_soundness.specs.Soundness.{soundRows}
 use Rattle.session.specs.declared.Session.{Session}
 
 -- a new session

@@ -9,8 +9,6 @@ ghost use Rattle.session_sums.specs.Sums.{sumsOf, Trued};
 ghost use Rattle.session.specs.Sessions.{fresh, marks, sound};
 ghost use Rattle.session.specs.Reads.{gathered, stepAt, turnedAway, readOf};
 ghost use Rattle.session.specs.Steps.{Gatherable, Movable, Enterable};
-use reuse::MAX_EXTENTS;
-use reuse::MAX_READS;
 use reuse::SLOTS;
 
 // The place of the sum over all marks.
@@ -74,7 +72,7 @@ impl Session {
     {
         let upto = self.next as usize;
         let counted = self.reads;
-        session_marks::intact(
+        session_soundness::intact(
             &self.first,
             &self.hist,
             &self.slots,
@@ -156,30 +154,23 @@ impl Session {
     {
         let next = self.next as usize;
         let reads = self.reads;
-        if !session_marks::intact(
+        let n = session_refusals::refusal(
             &self.first,
             &self.hist,
             &self.slots,
             &self.sums,
             next,
             reads,
-        ) {
-            return self.refused(7);
-        }
-        if reads == MAX_READS {
-            return self.refused(8);
-        }
-        let mut k = session_marks::find(&self.slots, &self.sums, next, extent);
-        if k == SLOTS {
-            if self.sums[ROOT] as usize == MAX_EXTENTS {
-                return self.refused(9);
-            }
+            extent,
+        );
+        if n != 0 {
+            return self.refused(n);
         }
         if next == SLOTS {
             self = self.gathered();
-            let v = self.next as usize;
-            k = session_marks::find(&self.slots, &self.sums, v, extent);
         }
+        let below = self.next as usize;
+        let k = session_marks::find(&self.slots, &self.sums, below, extent);
         if k == SLOTS {
             return self.entered(extent);
         }

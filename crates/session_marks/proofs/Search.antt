@@ -10,8 +10,7 @@ use lib.ListN.{length, take, getD}
 use lib.Seq.{getD-take, length-take-le}
 use borrow.Author.Tests.{eq-eqb, ne-eqb, eqb-true, le-leb, lt-leb}
 use Rattle.reuse.specs.Limits.{slotCount, sumCount}
-use Rattle.session_marks.specs.Marks.{slotFrom, paired, lastBelow, foundSlot}
-use Rattle.session_marks.specs.Soundness.{Searched}
+use Rattle.session_marks.specs.Marks.{slotFrom, paired, lastBelow, foundSlot, Searched}
 use Rattle.reuse.proofs.Lists.{clash, by-test, both}
 use Rattle.reuse.proofs.Sums.{free-at}
 use Rattle.session_marks.proofs.Marks.{Row, tidy-row, slot-found, slot-none}

@@ -1,11 +1,17 @@
 -- Slots beside their marks: the marked ones, the slot of an extent, and the marked ones gathered.
-use Prim.Native.Nat.{ℕ, zero, suc}
+use Prim.Native.Nat.{ℕ, zero, suc, _≤_}
+use mathlib.Core.Path.{_≡_}
 use mathlib.Core.List.{List, [], _∷_}
 use mathlib.Core.Bool.{Bool, true, cond, _&&_, _||_}
 use lib.Dec.{eqb, leb}
-use lib.ListN.{length, take, getD}
+use lib.ListN.{length, take, drop, getD}
 use Rattle.reuse.specs.Limits.{slotCount, sumCount}
+use Rattle.reuse.specs.Lists.{distinct, sum}
 use Rattle.session_sums.specs.Sums.{filled}
+
+-- the leaves of the sums: 1 where the slot is marked
+abbrev pub marksIn : List ℕ → List ℕ
+marksIn sums = take slotCount sums
 
 -- the extents of the marked slots, in the slots' order
 unfoldable pub marked : List ℕ → List ℕ → List ℕ
@@ -40,4 +46,13 @@ foundSlot slots sums next x = cond (paired slots sums && leb next slotCount) (la
 
 -- the marked slots of a session's rows moved, in order, to the first slots, 0 in the others; no marked slots in other rows
 unfoldable pub gatheredRow : List ℕ → List ℕ → List ℕ
-gatheredRow slots sums = filled slotCount (cond (paired slots sums) (marked (take slotCount sums) slots) [])
+gatheredRow slots sums = filled slotCount (cond (paired slots sums) (marked (marksIn sums) slots) [])
+
+-- slots whose marks stand below next, no extent twice
+pub record Searched (slots sums : List ℕ) (next : ℕ) : Type 0 where
+  pub slots-wide : length slots ≡ slotCount
+  pub sums-wide : length sums ≡ sumCount
+  pub low : next ≤ slotCount
+  pub free : sum (drop next (marksIn sums)) ≡ 0
+  pub neat : tidy (marksIn sums) slots ≡ true
+  pub apart : distinct (marked (marksIn sums) slots) ≡ true

@@ -1,16 +1,8 @@
-// The slots beside their marks, the leaves of the sums; and whether a session's fields are sound.
+// The slots beside their marks, the leaves of the sums: the slot of an extent, and the marked extents gathered.
 ghost use mathlib.Core.Path.{_≡_};
-ghost use lib.ListN.{length, take};
-ghost use Rattle.reuse.specs.Limits.{slotCount, sumCount};
-ghost use Rattle.session_marks.specs.Marks.{tidy, paired, foundSlot, gatheredRow};
-ghost use Rattle.session_marks.specs.Soundness.{Wide, marksHold, soundRows, intactRows};
-use reuse::MAX_EXTENTS;
-use reuse::MAX_READS;
+ghost use Rattle.session_marks.specs.Marks.{paired, foundSlot, gatheredRow};
 use reuse::SLOTS;
 use reuse::SUMS;
-
-// The place of the sum over all marks.
-const ROOT: usize = SUMS - 1;
 
 // Whether the rows are as long as a session's slots and sums.
 fn paired<'a>(slots: &'a [u32], sums: &'a [u32]) -> bool
@@ -62,105 +54,4 @@ pub fn gather<'a>(slots: &'a [u32], sums: &'a [u32]) -> [u32; SLOTS]
         i = i + 1;
     }
     out
-}
-
-// Whether each leaf is 0 or 1, and each slot without a mark 0.
-fn neat<'a>(slots: &'a [u32], sums: &'a [u32]) -> bool
-    requires { ⌜ (length (now slots) ≡ slotCount) × (length (now sums) ≡ sumCount) ⌝ }
-    ensures { λ r. ⌜ r ≡ tidy (take slotCount (now (sums .entry))) (now (slots .entry)) ⌝ }
-{
-    let mut good = true;
-    let mut i: usize = 0;
-    while i < SLOTS {
-        let mark = sums[i];
-        let x = slots[i];
-        if mark != 1 {
-            if mark != 0 {
-                good = false;
-            } else if x != 0 {
-                good = false;
-            }
-        }
-        i = i + 1;
-    }
-    good
-}
-
-// The part of the test that is of the marks: below next, tidy, and summed.
-fn marks_hold<'a>(slots: &'a [u32], sums: &'a [u32], next: usize) -> bool
-    requires { ⌜ (length (now slots) ≡ slotCount) × (length (now sums) ≡ sumCount) ⌝ }
-    ensures { λ r. ⌜ r ≡ marksHold (now (slots .entry)) (now (sums .entry)) next ⌝ }
-{
-    if SLOTS < next {
-        return false;
-    }
-    if !neat(slots, sums) {
-        return false;
-    }
-    if !reuse_rows::all_zero(&sums[next..SLOTS]) {
-        return false;
-    }
-    session_sums::true_sums(sums)
-}
-
-// The test of rows of the right length: the marks, the counts, and the same extents in the slots and in F.
-fn rows_hold<'a>(
-    first: &'a [u32],
-    hist: &'a [u32],
-    slots: &'a [u32],
-    sums: &'a [u32],
-    next: usize,
-    reads: u32,
-) -> bool
-    requires { ⌜ Wide (now first) (now hist) (now slots) (now sums) ⌝ }
-    ensures { λ r. ⌜ r ≡ soundRows reads (now (first .entry)) (now (hist .entry)) (now (slots .entry)) (now (sums .entry)) next ⌝ }
-{
-    if MAX_READS < reads {
-        return false;
-    }
-    if !marks_hold(slots, sums, next) {
-        return false;
-    }
-    let root = sums[ROOT];
-    if root > MAX_EXTENTS as u32 {
-        return false;
-    }
-    let v = root as usize;
-    if !reuse_rows::all_zero(&first[v..]) {
-        return false;
-    }
-    if !reuse_rows::all_zero(&hist[v..]) {
-        return false;
-    }
-    if reuse_rows::total(&hist[..v]) + v as u64 != reads as u64 {
-        return false;
-    }
-    if !reuse_tables::all_distinct(&first[..v]) {
-        return false;
-    }
-    let marked = gather(slots, sums);
-    reuse_tables::all_in(&first[..v], &marked[..v])
-}
-
-// Whether the rows are as long as a session's and sound.
-pub fn intact<'a>(
-    first: &'a [u32],
-    hist: &'a [u32],
-    slots: &'a [u32],
-    sums: &'a [u32],
-    next: usize,
-    reads: u32,
-) -> bool
-    ensures { λ r. ⌜ r ≡ intactRows reads (now (first .entry)) (now (hist .entry)) (now (slots .entry)) (now (sums .entry)) next ⌝ }
-{
-    if first.len() != MAX_EXTENTS {
-        return false;
-    }
-    if hist.len() != MAX_EXTENTS {
-        return false;
-    }
-    if !paired(slots, sums) {
-        return false;
-    }
-    rows_hold(first, hist, slots, sums, next, reads)
 }

@@ -19,7 +19,7 @@ use Rattle.summary_calls.specs.Calls.{Wrote, wrote, refused, wordsCall, shareOf
 use Rattle.session.specs.declared.Session.{Session}
 use Rattle.session_sums.specs.Sums.{filled}
 use Rattle.session_marks.specs.Marks.{marked, gatheredRow}
-use Rattle.session_marks.specs.Soundness.{Wide}
+use Rattle.session_soundness.specs.Soundness.{Wide}
 use Rattle.session.specs.Sessions.{marks, extents, stackOf, firstRow, sound}
 use Rattle.session_summary.specs.Summaries.{sessionWords, summaryCall, missesCall, shareCall}
 use Rattle.reuse.proofs.Stack.{stack-law}

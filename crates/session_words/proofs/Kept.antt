@@ -16,7 +16,7 @@ use Rattle.session.specs.declared.Session.{Session}
 use Rattle.session.specs.declared.Answer.{Answer}
 use Rattle.session.specs.declared.Answer.the-variants.{Cold, Distance, Refused}
 use Rattle.session.specs.Sessions.{fresh}
-use Rattle.session_marks.specs.Soundness.{Wide}
+use Rattle.session_soundness.specs.Soundness.{Wide}
 use Rattle.session.specs.Reads.{turnedAway, readOf}
 use Rattle.session_summary.specs.Summaries.{summaryCall}
 use Rattle.session_words.specs.Layout.{sessionLength, sessionIn, sessionLaid}

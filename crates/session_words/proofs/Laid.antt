@@ -9,7 +9,7 @@ use Rattle.reuse.specs.Limits.{maxExtents, slotCount, sumCount}
 use Rattle.reuse_rows.specs.Rows.{putAt, placed}
 use Rattle.reuse_copies.proofs.Puts.{put-cons, put-none, placed-fits}
 use Rattle.session.specs.declared.Session.{Session}
-use Rattle.session_marks.specs.Soundness.{Wide}
+use Rattle.session_soundness.specs.Soundness.{Wide}
 use Rattle.reuse_copies.proofs.Filling.{Filled, fill-step, filled-length}
 use Rattle.session_words.specs.Layout.{firstPlace, histPlace, slotsPlace, sumsPlace, nextPlace, sessionLength, sessionIn, sessionLaid, part}
 

@@ -6,7 +6,7 @@ use mathlib.Core.List.{List, _++_}
 use lib.ListN.{length, take, getD}
 use borrow.Author.Tests.{le-leb}
 use Rattle.reuse.specs.Limits.{maxExtents}
-use Rattle.reuse.specs.Lists.{firsts, outside}
+use Rattle.reuse.specs.Lists.{firsts, beside}
 use Rattle.reuse.specs.Summary.{words, readsOf, firstOf, recentOf, countsOf, joinedFirst, joinedRecent, joinedCounts, joinOf}
 use Rattle.reuse.proofs.Lists.{firsts-append}
 use Rattle.reuse.proofs.Distinct.{firsts-distinct}
@@ -19,7 +19,7 @@ use Rattle.summary_calls.proofs.Fields.{front-part}
 use Rattle.summary_cross.specs.Crossing.{added, crossed}
 use Rattle.summary_cross.specs.Joining.{Near}
 use Rattle.summary_cross.proofs.Joined.{joined-row}
-use Rattle.summary_join.specs.Joining.{beside, Joinable}
+use Rattle.summary_join.specs.Joining.{Joinable}
 
 -- the different extents of both are F of the join
 pub firsts-both : (a b : List ℕ) → Given a → Given b → firsts (firstOf a ++ firstOf b) ≡ joinedFirst a b
@@ -34,7 +34,7 @@ module _ (a b : List ℕ) (v : ℕ) (g : Joinable a b v) (first recent hist : Li
     (eh : hist ≡ crossed (padded (recentOf a)) (length (recentOf a)) (firstOf b) (added (padded (countsOf a)) (countsOf b))) where
   -- F
   first-front : take v first ≡ joinedFirst a b
-  unfolding joinedFirst beside
+  unfolding joinedFirst
   first-front = rw (ef, g .extents) (padded-front (joinedFirst a b) (omega (arith, g .extents, g .few)))
 
   -- R has v words too
@@ -43,7 +43,7 @@ module _ (a b : List ℕ) (v : ℕ) (g : Joinable a b v) (first recent hist : Li
 
   -- R
   recent-front : take v recent ≡ joinedRecent a b
-  unfolding joinedRecent beside
+  unfolding joinedRecent
   recent-front = rw (er, sym recent-long) (padded-front (joinedRecent a b) (omega (arith, recent-long, g .few)))
 
   -- H

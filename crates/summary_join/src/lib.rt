@@ -6,12 +6,13 @@ ghost use mathlib.Core.Path.{_≡_};
 ghost use Prim.Native.Nat.{suc, min};
 ghost use lib.ListN.{length};
 ghost use Rattle.reuse.specs.Limits.{maxExtents};
+ghost use Rattle.reuse.specs.Lists.{beside};
 ghost use Rattle.reuse.specs.Summary.{firstOf, recentOf, countsOf, joinedFirst, joinOf};
 ghost use Rattle.reuse_rows.specs.Rows.{padded};
 ghost use Rattle.summary_calls.specs.Shapes.{Shaped, Given};
 ghost use Rattle.summary_calls.specs.Calls.{joinCall, wrote};
 ghost use Rattle.summary_cross.specs.Crossing.{added, crossed};
-ghost use Rattle.summary_join.specs.Joining.{beside, Joinable};
+ghost use Rattle.summary_join.specs.Joining.{Joinable};
 
 // The summary of A, then B, at the front of `out`.
 pub fn join(a: &[u32], b: &[u32], out: &mut [u32]) -> Written
@@ -63,7 +64,7 @@ fn first_of_both(a: &[u32], b: &[u32]) -> [u32; MAX_EXTENTS]
 {
     let ea = 2 + a[1] as usize;
     let eb = 2 + b[1] as usize;
-    beside(&a[2..ea], &b[2..eb])
+    summary_beside::beside(&a[2..ea], &b[2..eb])
 }
 
 // R of the join, and 0 after it.
@@ -77,7 +78,7 @@ fn recent_of_both(a: &[u32], b: &[u32]) -> [u32; MAX_EXTENTS]
     let rb = 2 + vb;
     let ha = ra + va;
     let hb = rb + vb;
-    beside(&b[rb..hb], &a[ra..ha])
+    summary_beside::beside(&b[rb..hb], &a[ra..ha])
 }
 
 // H of the join, and what is counted past it.
@@ -92,26 +93,4 @@ fn counts_of_both(a: &[u32], b: &[u32]) -> [u32; MAX_EXTENTS]
     let ha = ra + va;
     let hb = rb + vb;
     summary_cross::counts(&a[ra..ha], &b[2..rb], &a[ha..], &b[hb..])
-}
-
-// The words, then those of `more` that do not stand among them: as many as the limit of extents, and 0 after them.
-fn beside(words: &[u32], more: &[u32]) -> [u32; MAX_EXTENTS]
-    ensures { λ r. ⌜ r ≡ padded (beside (now (words .entry)) (now (more .entry))) ⌝ }
-{
-    let table = reuse_tables::hints(words);
-    let mut row = reuse_copies::padded(words);
-    let mut n = words.len();
-    let mut i: usize = 0;
-    while i < more.len() {
-        let x = more[i];
-        if !reuse_tables::known(words, &table, x) {
-            if MAX_EXTENTS <= n {
-                return row;
-            }
-            row[n] = x;
-            n = n + 1;
-        }
-        i = i + 1;
-    }
-    row
 }

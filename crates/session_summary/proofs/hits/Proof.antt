@@ -7,7 +7,7 @@ use lib.ListN.{take}
 use lib.Seq.{length-take-le, take-all}
 use Rattle.reuse.specs.Lists.{sum}
 use Rattle.reuse.specs.Summary.{hitsOf}
-use Rattle.session_marks.specs.Soundness.{Wide}
+use Rattle.session_soundness.specs.Soundness.{Wide}
 use Rattle.session.specs.Sessions.{extents}
 use Rattle.session_summary.specs.Summaries.{sessionWords}
 use Rattle.session.proofs.Sound.{Kept, rows-of, true-sound, kept-root, kept-few}

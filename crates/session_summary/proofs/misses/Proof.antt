@@ -5,7 +5,7 @@ use Prim.Native.Nat.{_-_}
 use native.Mathlib.Omega.{arith}
 use borrow.Author.Tests.{not-true, not-false}
 use Rattle.reuse.specs.Summary.{missesOf}
-use Rattle.session_marks.specs.Soundness.{Wide}
+use Rattle.session_soundness.specs.Soundness.{Wide}
 use Rattle.session.specs.Sessions.{sound}
 use Rattle.session_summary.specs.Summaries.{sessionWords, missesCall}
 use Rattle.session.proofs.Sound.{rows-of}

@@ -2,7 +2,7 @@
 use mathlib.Core.Path.{_≡_, sym, _∙_}
 use mathlib.Core.Bool.{true}
 use borrow.Author.Tests.{not-true, not-false}
-use Rattle.session_marks.specs.Soundness.{Wide}
+use Rattle.session_soundness.specs.Soundness.{Wide}
 use Rattle.session.specs.Sessions.{sound}
 use Rattle.session_summary.specs.Summaries.{shareCall}
 use Rattle.session.proofs.Sound.{rows-of}

@@ -8,7 +8,7 @@ use lib.Seq.{length-take-le}
 use borrow.Author.Tests.{not-true, not-false}
 use Rattle.reuse.specs.Limits.{maxExtents}
 use Rattle.summary_calls.specs.Calls.{Wrote}
-use Rattle.session_marks.specs.Soundness.{Wide}
+use Rattle.session_soundness.specs.Soundness.{Wide}
 use Rattle.session.specs.declared.Session.{Session}
 use Rattle.session.specs.Sessions.{sound}
 use Rattle.session.proofs.Sound.{root}

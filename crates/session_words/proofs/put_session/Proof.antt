@@ -2,7 +2,7 @@
 use Prim.Native.Nat.{_≤_}
 use native.Mathlib.Omega.{arith}
 use lib.ListN.{length, length-set}
-use Rattle.session_marks.specs.Soundness.{Wide}
+use Rattle.session_soundness.specs.Soundness.{Wide}
 use Rattle.reuse_copies.proofs.Filling.{Filled, filled-length}
 use Rattle.session_words.specs.Layout.{sessionLength, nextPlace}
 use Rattle.session_words.proofs.Laid.{laidParts, laid-parts, laid-last}

@@ -1,8 +1,8 @@
 -- `session::Session::sound` meets its contract.
 use mathlib.Core.Path.{_∙_}
-use Rattle.session_marks.specs.Soundness.{Wide}
+use Rattle.session_soundness.specs.Soundness.{Wide}
 use Rattle.session.specs.Sessions.{sound}
-use Rattle.session_marks.proofs.Sound.{intact-wide}
+use Rattle.session_soundness.proofs.Sound.{intact-wide}
 use borrow.Author.Needs.{needs}
 use Rattle.session.proofs.Session.sound.Statement.{statement}
 use Rattle.session.proofs.Session.sound.Tie as tie

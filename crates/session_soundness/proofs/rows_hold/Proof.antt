@@ -1,4 +1,4 @@
--- `session_marks::rows_hold` meets its contract. Each test that fails breaks a fact, and the last decides.
+-- `session_soundness::rows_hold` meets its contract. Each test that fails breaks a fact, and the last decides.
 use mathlib.Core.Path.{_≡_, refl, sym, ap, _∙_}
 use native.Mathlib.Omega.{arith}
 use lib.ListN.{length, take, drop}
@@ -8,14 +8,14 @@ use Prim.Native.Nat.{ℕ, _+_, _≤_}
 use mathlib.Core.List.{List}
 use Rattle.reuse.specs.Lists.{allIn, sum}
 use Rattle.reuse_rows.specs.Rows.{blank}
-use Rattle.session_marks.specs.Soundness.{Wide}
+use Rattle.session_soundness.specs.Soundness.{Wide}
 use Rattle.reuse.proofs.Lists.{clash}
 use Rattle.reuse_rows.proofs.Slices.{part-rest}
-use Rattle.session_marks.proofs.Sound.{root, unsound}
-use Rattle.session_marks.proofs.Verdict.{Passed, passed-sound, sound-marks, sound-few, sound-first-rest, sound-hist-rest, sound-total, sound-apart}
+use Rattle.session_soundness.proofs.Sound.{root, unsound}
+use Rattle.session_soundness.proofs.Verdict.{Passed, passed-sound, sound-marks, sound-few, sound-first-rest, sound-hist-rest, sound-total, sound-apart}
 use borrow.Author.Needs.{needs}
-use Rattle.session_marks.proofs.rows_hold.Statement.{statement}
-use Rattle.session_marks.proofs.rows_hold.Tie as tie
+use Rattle.session_soundness.proofs.rows_hold.Statement.{statement}
+use Rattle.session_soundness.proofs.rows_hold.Tie as tie
 
 -- the widths of the rows
 wide : (c : tie.Start) → Wide (c .args .first .now) (c .args .hist .now) (c .args .slots .now) (c .args .sums .now)

@@ -10,18 +10,18 @@ use borrow.Author.Tests.{eq-eqb, eqb-true, leb-true, le-leb}
 use Rattle.reuse.specs.Lists.{mem, distinct, sum}
 use Rattle.reuse.specs.Limits.{maxReads, maxExtents, slotCount, sumCount, levels}
 use Rattle.session_sums.specs.Sums.{sumsOf}
-use Rattle.session_marks.specs.Marks.{marked, paired}
-use Rattle.session_marks.specs.Soundness.{marksIn, extentsIn, stackIn, firstIn, soundRows, intactRows, Wide}
+use Rattle.session_marks.specs.Marks.{marked, paired, marksIn}
+use Rattle.session_soundness.specs.Soundness.{extentsIn, stackIn, firstIn, soundRows, intactRows, Wide}
 use Rattle.reuse.proofs.Lists.{by-test, both, mem-reverse}
 use Rattle.reuse.proofs.Distinct.{distinct-reverse}
 use Rattle.reuse.proofs.Sizes.{all-in, all-same}
 use Rattle.reuse.proofs.Counts.{sum-split}
 use Rattle.session_sums.proofs.Tests.{same-of, same-eq}
 use Rattle.session_sums.proofs.Tree.{full, root-of}
-use Rattle.session_marks.proofs.Tests.{blank-sum, sum-blank}
+use Rattle.session_soundness.proofs.Tests.{blank-sum, sum-blank}
 use Rattle.session_marks.proofs.Marks.{row-tidy, tidy-row}
 use Rattle.session_marks.proofs.Rows.{Rows}
 use Rattle.session_marks.proofs.Search.{pair-of}
 
 -- the rows are sound, and the sums are true
 pub record Kept (reads : ℕ) (first hist slots sums : List ℕ) (next : ℕ) : Type 0 where

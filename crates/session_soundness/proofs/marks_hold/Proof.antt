@@ -1,16 +1,16 @@
--- `session_marks::marks_hold` meets its contract. Each return is one test of `marksHold`.
+-- `session_soundness::marks_hold` meets its contract. Each return is one test of `marksHold`.
 use mathlib.Core.Path.{_≡_, sym, ap, _∙_}
 use mathlib.Core.Bool.{true}
 use borrow.Author.Tests.{not-true, not-false, le-leb, lt-leb}
 use lib.Dec.{leb}
 use lib.ListN.{take, drop}
 use Rattle.reuse_rows.specs.Rows.{blank}
 use Rattle.session_marks.specs.Marks.{tidy}
-use Rattle.session_marks.specs.Soundness.{marksHold}
-use Rattle.session_marks.proofs.Passes.{part-run}
+use Rattle.session_soundness.specs.Soundness.{marksHold}
+use Rattle.session_soundness.proofs.Passes.{part-run}
 use borrow.Author.Needs.{needs}
-use Rattle.session_marks.proofs.marks_hold.Statement.{statement}
-use Rattle.session_marks.proofs.marks_hold.Tie as tie
+use Rattle.session_soundness.proofs.marks_hold.Statement.{statement}
+use Rattle.session_soundness.proofs.marks_hold.Tie as tie
 
 -- the start, from the place after the test of the free slots
 abbrev start : tie.After-all-zero → tie.Start

@@ -1,4 +1,4 @@
--- `session_marks::neat` meets its contract. The invariant: no fault yet, and none in the rest, is what the test says.
+-- `session_soundness::neat` meets its contract. The invariant: no fault yet, and none in the rest, is what the test says.
 use mathlib.Core.Path.{_≡_, refl, ap, _∙_}
 use mathlib.Core.List.{List}
 use mathlib.Core.Logic.{⊎-elim}
@@ -6,11 +6,11 @@ use Prim.Native.Nat.{ℕ, _-_, _≤_}
 use native.Mathlib.Omega.{arith}
 use lib.ListN.{take, drop}
 use lib.Seq.{slice-empty}
 use Rattle.session_marks.specs.Marks.{tidy}
 use Rattle.reuse_rows.proofs.Slices.{Passing, passed, failed, ended}
-use Rattle.session_marks.proofs.Passes.{tidy-large, tidy-stray, tidy-bare, tidy-kept}
-use Rattle.session_marks.proofs.neat.Statement.{statement}
-use Rattle.session_marks.proofs.neat.Tie as tie
+use Rattle.session_soundness.proofs.Passes.{tidy-large, tidy-stray, tidy-bare, tidy-kept}
+use Rattle.session_soundness.proofs.neat.Statement.{statement}
+use Rattle.session_soundness.proofs.neat.Tie as tie
 
 abbrev Inv-loop : tie.InvT-loop
 Inv-loop slots sums good₀ i₀ good i = (i ≤ 512) × Passing good (tidy (drop i (take 512 sums)) (drop i slots)) (tidy (take 512 sums) slots)

@@ -9,13 +9,12 @@ use lib.ListN.{length, take, drop, getD, set, replicate, drop-of-length-le, leng
 use lib.Seq.{take-all, take-at, drop-at, drop-drop, take-append-le, length-take-le}
 use borrow.Author.Tests.{leb-true, leb-false}
 use Rattle.reuse.specs.Limits.{maxExtents}
-use Rattle.reuse.specs.Lists.{mem, outside}
+use Rattle.reuse.specs.Lists.{mem, outside, beside}
 use Rattle.reuse.proofs.Lists.{by-test}
 use Rattle.reuse_rows.specs.Rows.{putAt, padded}
 use Rattle.reuse_rows.proofs.Slices.{next-word}
 use Rattle.reuse_copies.proofs.Puts.{put-none, put-cons}
 use Rattle.reuse_copies.proofs.Padding.{padded-more}
-use Rattle.summary_join.specs.Joining.{beside}
 
 -- the words passed that do not stand in s are put; what is left is still to be put, as far as there is room
 pub record Besides (s t row : List ℕ) (n i : ℕ) : Type 0 where
@@ -26,7 +25,6 @@ pub record Besides (s t row : List ℕ) (n i : ℕ) : Type 0 where
 module _ (s t : List ℕ) where
   -- before the first word
   pub beside-start : (row : List ℕ) → row ≡ padded s → length row ≡ maxExtents → Besides s t row (length s) 0
-  unfolding beside
   beside-start row e l = record { within = omega arith; long = l; same = rw e (padded-more s (outside s t)) }
 
   module _ (row : List ℕ) (n i : ℕ) (h : Besides s t row n i) (l : i < length t) where

@@ -9,11 +9,7 @@ use Rattle.reuse.specs.Lists.{distinct, allIn, sum}
 use Rattle.reuse.specs.Limits.{maxReads, maxExtents, slotCount, sumCount, levels}
 use Rattle.reuse_rows.specs.Rows.{blank}
 use Rattle.session_sums.specs.Sums.{sumsOf, same, trueSums}
-use Rattle.session_marks.specs.Marks.{marked, tidy, paired}
-
--- the leaves of the sums: 1 where the slot is marked
-abbrev pub marksIn : List ℕ → List ℕ
-marksIn sums = take slotCount sums
+use Rattle.session_marks.specs.Marks.{marked, tidy, paired, marksIn}
 
 -- v: how many slots are marked
 abbrev pub extentsIn : List ℕ → ℕ
@@ -73,12 +69,3 @@ marksHold slots sums next =
     && tidy (marksIn sums) slots
     && blank (drop next (marksIn sums))
     && trueSums sums
-
--- slots whose marks stand below next, no extent twice
-pub record Searched (slots sums : List ℕ) (next : ℕ) : Type 0 where
-  pub slots-wide : length slots ≡ slotCount
-  pub sums-wide : length sums ≡ sumCount
-  pub low : next ≤ slotCount
-  pub free : sum (drop next (marksIn sums)) ≡ 0
-  pub neat : tidy (marksIn sums) slots ≡ true
-  pub apart : distinct (marked (marksIn sums) slots) ≡ true

@@ -12,17 +12,17 @@ use Rattle.reuse.specs.Lists.{mem, distinct, allIn, sum}
 use Rattle.reuse.specs.Limits.{maxReads, maxExtents, slotCount, sumCount, levels}
 use Rattle.reuse_rows.specs.Rows.{blank}
 use Rattle.session_sums.specs.Sums.{sumsOf, same, trueSums, filled}
-use Rattle.session_marks.specs.Marks.{marked, tidy, gatheredRow}
-use Rattle.session_marks.specs.Soundness.{marksIn, extentsIn, soundRows, Wide, marksHold}
+use Rattle.session_marks.specs.Marks.{marked, tidy, gatheredRow, marksIn}
+use Rattle.session_soundness.specs.Soundness.{extentsIn, soundRows, Wide, marksHold}
 use Rattle.reuse.proofs.Lists.{clash, by-test, both}
 use Rattle.reuse.proofs.Sizes.{full-distinct, full-same, all-in, in-all}
 use Rattle.reuse.proofs.Counts.{sum-split}
 use Rattle.session_sums.proofs.Tests.{same-of, same-eq}
-use Rattle.session_marks.proofs.Tests.{blank-sum, sum-blank}
+use Rattle.session_soundness.proofs.Tests.{blank-sum, sum-blank}
 use Rattle.session_marks.proofs.Marks.{Row, row-count, row-tidy, tidy-row}
 use Rattle.session_marks.proofs.Passes.{gathered-pair}
 use Rattle.session_marks.proofs.Search.{pair-of}
-use Rattle.session_marks.proofs.Sound.{Sound, root, root-extents, kept-root, kept-sound, hist-total, unsound}
+use Rattle.session_soundness.proofs.Sound.{Sound, root, root-extents, kept-root, kept-sound, hist-total, unsound}
 
 -- the marks as the code tests them
 pub record Held (slots sums : List ℕ) (next : ℕ) : Type 0 where

@@ -1,0 +1,37 @@
+// What refuses a read, by a session's fields.
+ghost use mathlib.Core.Path.{_≡_};
+ghost use Rattle.session_refusals.specs.Refusals.{refusalOf};
+use reuse::MAX_EXTENTS;
+use reuse::MAX_READS;
+use reuse::SLOTS;
+
+// The place of the sum over all marks.
+const ROOT: usize = reuse::SUMS - 1;
+
+// Why a read of the extent x is refused: 7, 8 or 9; 0 where it is accepted. Its slot is looked up only where there are as
+// many extents as the limit.
+pub fn refusal<'a>(
+    first: &'a [u32],
+    hist: &'a [u32],
+    slots: &'a [u32],
+    sums: &'a [u32],
+    next: usize,
+    reads: u32,
+    x: u32,
+) -> u32
+    ensures { λ r. ⌜ r ≡ refusalOf reads (now (first .entry)) (now (hist .entry)) (now (slots .entry)) (now (sums .entry)) next x ⌝ }
+{
+    if !session_soundness::intact(first, hist, slots, sums, next, reads) {
+        return 7;
+    }
+    if reads == MAX_READS {
+        return 8;
+    }
+    if sums[ROOT] as usize == MAX_EXTENTS {
+        let k = session_marks::find(slots, sums, next, x);
+        if k == SLOTS {
+            return 9;
+        }
+    }
+    0
+}

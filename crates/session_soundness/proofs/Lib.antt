@@ -1,0 +1,4 @@
+mod Passes
+pub mod Tests
+pub mod Sound
+mod Verdict

@@ -1,0 +1,117 @@
+// Whether a session's fields are sound.
+ghost use mathlib.Core.Path.{_≡_};
+ghost use lib.ListN.{length};
+ghost use Rattle.reuse.specs.Limits.{slotCount, sumCount};
+ghost use Rattle.session_marks.specs.Marks.{marksIn, tidy};
+ghost use Rattle.session_soundness.specs.Soundness.{Wide, marksHold, soundRows, intactRows};
+use reuse::MAX_EXTENTS;
+use reuse::MAX_READS;
+use reuse::SLOTS;
+use reuse::SUMS;
+
+// The place of the sum over all marks.
+const ROOT: usize = SUMS - 1;
+
+// Whether each leaf is 0 or 1, and each slot without a mark 0.
+fn neat<'a>(slots: &'a [u32], sums: &'a [u32]) -> bool
+    requires { ⌜ (length (now slots) ≡ slotCount) × (length (now sums) ≡ sumCount) ⌝ }
+    ensures { λ r. ⌜ r ≡ tidy (marksIn (now (sums .entry))) (now (slots .entry)) ⌝ }
+{
+    let mut good = true;
+    let mut i: usize = 0;
+    while i < SLOTS {
+        let mark = sums[i];
+        let x = slots[i];
+        if mark != 1 {
+            if mark != 0 {
+                good = false;
+            } else if x != 0 {
+                good = false;
+            }
+        }
+        i = i + 1;
+    }
+    good
+}
+
+// The part of the test that is of the marks: below next, tidy, and summed.
+fn marks_hold<'a>(slots: &'a [u32], sums: &'a [u32], next: usize) -> bool
+    requires { ⌜ (length (now slots) ≡ slotCount) × (length (now sums) ≡ sumCount) ⌝ }
+    ensures { λ r. ⌜ r ≡ marksHold (now (slots .entry)) (now (sums .entry)) next ⌝ }
+{
+    if SLOTS < next {
+        return false;
+    }
+    if !neat(slots, sums) {
+        return false;
+    }
+    if !reuse_rows::all_zero(&sums[next..SLOTS]) {
+        return false;
+    }
+    session_sums::true_sums(sums)
+}
+
+// The test of rows of the right length: the marks, the counts, and the same extents in the slots and in F.
+fn rows_hold<'a>(
+    first: &'a [u32],
+    hist: &'a [u32],
+    slots: &'a [u32],
+    sums: &'a [u32],
+    next: usize,
+    reads: u32,
+) -> bool
+    requires { ⌜ Wide (now first) (now hist) (now slots) (now sums) ⌝ }
+    ensures { λ r. ⌜ r ≡ soundRows reads (now (first .entry)) (now (hist .entry)) (now (slots .entry)) (now (sums .entry)) next ⌝ }
+{
+    if MAX_READS < reads {
+        return false;
+    }
+    if !marks_hold(slots, sums, next) {
+        return false;
+    }
+    let root = sums[ROOT];
+    if root > MAX_EXTENTS as u32 {
+        return false;
+    }
+    let v = root as usize;
+    if !reuse_rows::all_zero(&first[v..]) {
+        return false;
+    }
+    if !reuse_rows::all_zero(&hist[v..]) {
+        return false;
+    }
+    if reuse_rows::total(&hist[..v]) + v as u64 != reads as u64 {
+        return false;
+    }
+    if !reuse_tables::all_distinct(&first[..v]) {
+        return false;
+    }
+    let marked = session_marks::gather(slots, sums);
+    reuse_tables::all_in(&first[..v], &marked[..v])
+}
+
+// Whether the rows are as long as a session's and sound.
+pub fn intact<'a>(
+    first: &'a [u32],
+    hist: &'a [u32],
+    slots: &'a [u32],
+    sums: &'a [u32],
+    next: usize,
+    reads: u32,
+) -> bool
+    ensures { λ r. ⌜ r ≡ intactRows reads (now (first .entry)) (now (hist .entry)) (now (slots .entry)) (now (sums .entry)) next ⌝ }
+{
+    if first.len() != MAX_EXTENTS {
+        return false;
+    }
+    if hist.len() != MAX_EXTENTS {
+        return false;
+    }
+    if slots.len() != SLOTS {
+        return false;
+    }
+    if sums.len() != SUMS {
+        return false;
+    }
+    rows_hold(first, hist, slots, sums, next, reads)
+}
