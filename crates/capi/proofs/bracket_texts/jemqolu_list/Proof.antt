@@ -1,7 +1,7 @@
 -- `capi::bracket_texts::jemqolu_list` meets its contract.
 use native.Mathlib.Omega.{arith}
 use Rattle.capi_answers.proofs.Signed.{read-count}
-use Rattle.capi.proofs.Small.{small-list}
+use Rattle.capi_sizes.proofs.Small.{small-list}
 use borrow.Author.Needs.{needs}
 use Rattle.capi.proofs.bracket_texts.jemqolu_list.Statement.{statement}
 use Rattle.capi.proofs.bracket_texts.jemqolu_list.Tie as tie

@@ -1,7 +1,7 @@
 -- `capi::bracket_texts::jemqolu_plan` meets its contract.
 use native.Mathlib.Omega.{arith}
 use Rattle.capi_answers.proofs.Signed.{read-count}
-use Rattle.capi.proofs.Small.{small-run}
+use Rattle.capi_sizes.proofs.Small.{small-run}
 use borrow.Author.Needs.{needs}
 use Rattle.capi.proofs.bracket_texts.jemqolu_plan.Statement.{statement}
 use Rattle.capi.proofs.bracket_texts.jemqolu_plan.Tie as tie

@@ -1,7 +1,7 @@
 -- `capi::sessions::jemqolu_session_new` meets its contract.
 use native.Mathlib.Omega.{arith}
 use Rattle.capi_answers.proofs.Signed.{read-count}
-use Rattle.capi.proofs.Small.{small-session}
+use Rattle.capi_sizes.proofs.Small.{small-session}
 use borrow.Author.Needs.{needs}
 use Rattle.capi.proofs.sessions.jemqolu_session_new.Statement.{statement}
 use Rattle.capi.proofs.sessions.jemqolu_session_new.Tie as tie

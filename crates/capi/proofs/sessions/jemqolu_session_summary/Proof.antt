@@ -1,7 +1,7 @@
 -- `capi::sessions::jemqolu_session_summary` meets its contract.
 use native.Mathlib.Omega.{arith}
 use Rattle.capi_answers.proofs.Signed.{read-count}
-use Rattle.capi.proofs.Small.{small-summary}
+use Rattle.capi_sizes.proofs.Small.{small-summary}
 use borrow.Author.Needs.{needs}
 use Rattle.capi.proofs.sessions.jemqolu_session_summary.Statement.{statement}
 use Rattle.capi.proofs.sessions.jemqolu_session_summary.Tie as tie

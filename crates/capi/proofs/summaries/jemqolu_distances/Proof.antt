@@ -1,7 +1,7 @@
 -- `capi::summaries::jemqolu_distances` meets its contract.
 use native.Mathlib.Omega.{arith}
 use Rattle.capi_answers.proofs.Signed.{read-count}
-use Rattle.capi.proofs.Small.{small-after}
+use Rattle.capi_sizes.proofs.Small.{small-after}
 use borrow.Author.Needs.{needs}
 use Rattle.capi.proofs.summaries.jemqolu_distances.Statement.{statement}
 use Rattle.capi.proofs.summaries.jemqolu_distances.Tie as tie

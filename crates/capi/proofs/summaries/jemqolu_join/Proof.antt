@@ -1,7 +1,7 @@
 -- `capi::summaries::jemqolu_join` meets its contract.
 use native.Mathlib.Omega.{arith}
 use Rattle.capi_answers.proofs.Signed.{read-count}
-use Rattle.capi.proofs.Small.{small-join}
+use Rattle.capi_sizes.proofs.Small.{small-join}
 use borrow.Author.Needs.{needs}
 use Rattle.capi.proofs.summaries.jemqolu_join.Statement.{statement}
 use Rattle.capi.proofs.summaries.jemqolu_join.Tie as tie

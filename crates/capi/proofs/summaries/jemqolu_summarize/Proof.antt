@@ -1,7 +1,7 @@
 -- `capi::summaries::jemqolu_summarize` meets its contract.
 use native.Mathlib.Omega.{arith}
 use Rattle.capi_answers.proofs.Signed.{read-count}
-use Rattle.capi.proofs.Small.{small-trace}
+use Rattle.capi_sizes.proofs.Small.{small-trace}
 use borrow.Author.Needs.{needs}
 use Rattle.capi.proofs.summaries.jemqolu_summarize.Statement.{statement}
 use Rattle.capi.proofs.summaries.jemqolu_summarize.Tie as tie

@@ -1,7 +1,7 @@
 -- `capi::watches::jemqolu_watch_new` meets its contract.
 use native.Mathlib.Omega.{arith}
 use Rattle.capi_answers.proofs.Signed.{read-count}
-use Rattle.capi.proofs.Small.{small-watch}
+use Rattle.capi_sizes.proofs.Small.{small-watch}
 use borrow.Author.Needs.{needs}
 use Rattle.capi.proofs.watches.jemqolu_watch_new.Statement.{statement}
 use Rattle.capi.proofs.watches.jemqolu_watch_new.Tie as tie
