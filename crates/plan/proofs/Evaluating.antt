@@ -2,88 +2,26 @@
 use mathlib.Core.Path.{_≡_, refl, sym, ap, subst, _∙_}
 use Prim.Native.Nat.{ℕ, suc, _+_, _-_, _*_, _≤_, _<_}
 use native.Mathlib.Omega.{arith}
-use mathlib.Core.List.{List, [], _∷_, _++_}
-use lib.ListN.{length, take, drop, length-append, length-drop, take-append-drop}
-use lib.Seq.{take-add, drop-drop, length-take-le}
-use native.Mathlib.Numerals.{add-one}
-use borrow.Author.Tests.{le-leb}
+use mathlib.Core.List.{List, _∷_, _++_}
+use mathlib.Core.Logic.{inl, inr}
+use lib.ListN.{length, take, drop}
+use lib.Seq.{drop-drop, length-take-le}
 use borrow.Rule.Slice.PartMut.{midOf, putMid}
 use Rattle.reuse.specs.Lists.{firsts}
 use Rattle.reuse.specs.Summary.{summaryOf}
 use Rattle.reuse.specs.Traces.{Within}
-use Rattle.reuse.proofs.Words.{length-summary}
-use Rattle.reuse.proofs.Lists.{firsts-longer}
-use Rattle.reuse.proofs.Formed.{firsts-grow}
-use Rattle.reuse.proofs.Traces.{within-part}
 use Rattle.reuse_rows.specs.Rows.{putAt}
 use Rattle.summary_calls.specs.Calls.{Wrote, wrote, joinCall, traceCall}
 use Rattle.summary_calls.proofs.Traces.{join-trace, trace-within}
-use mathlib.Core.Logic.{inl, inr}
 use Rattle.texts.specs.Words.{close}
 use Rattle.texts.specs.Plans.{Plan, partsText, reads, depth}
-use Rattle.plan.specs.Calls.{summaryWords, levelWords, fronted}
-use Rattle.plan.specs.Evaluation.{countOf, span, Stands, Ready, Roomy, Evaluated, Holdable}
+use Rattle.plan_calls.specs.Calls.{summaryWords, levelWords, countOf, fronted}
+use Rattle.plan_calls.specs.Standing.{span}
+use Rattle.plan_calls.proofs.Spans.{back-words, front-words, span-within, span-append, grown-words, span-words}
+use Rattle.plan_calls.proofs.Levels.{put-before, put-there, put-after, back-before, back-length, front-there, front-again, wrote-front, levels-more, level-kept}
+use Rattle.plan_calls.proofs.Standing.{Opened, Pending, NextPart, no-part}
+use Rattle.plan.specs.Evaluation.{Evaluated, Holdable}
 use Rattle.plan.specs.declared.evaluation.Done.{Done}
-use Rattle.plan.proofs.Levels.{put-there, put-after, back-before, back-kept, back-length, front-there, front-again}
-use Rattle.plan.proofs.Standing.{Opened, Pending, NextPart, no-part}
-
--- words written where there is room
-pub wrote-front : (w buffer : List ℕ) → length w ≤ length buffer → (wrote w buffer .buffer ≡ fronted w buffer) × (countOf (wrote w buffer .answer) ≡ length w)
-unfolding wrote fronted
-wrote-front w buffer h = (rw (le-leb (length w) (length buffer) h), rw (le-leb (length w) (length buffer) h))
-
--- as long as before
-pub front-length : (w buffer : List ℕ) → length w ≤ length buffer → length (fronted w buffer) ≡ length buffer
-unfolding fronted
-front-length w buffer h = length-append w (drop (length w) buffer) ∙ omega (arith, length-drop (length w) buffer)
-
--- the back of a log has no more extents
-back-extents : (a b : List ℕ) → length (firsts b) ≤ length (firsts (a ++ b))
-back-extents [] b = omega arith
-back-extents (x ∷ a) b = omega (arith, back-extents a b, firsts-grow x (a ++ b))
-
--- nor has its summary more words
-back-words : (a b : List ℕ) → length (summaryOf b) ≤ length (summaryOf (a ++ b))
-back-words a b = omega (arith, length-summary b, length-summary (a ++ b), back-extents a b)
-
--- the same of the front
-front-words : (a b : List ℕ) → length (summaryOf a) ≤ length (summaryOf (a ++ b))
-front-words a b = omega (arith, length-summary a, length-summary (a ++ b), firsts-longer b a)
-
-module _ (log : List ℕ) where
-  -- a log, around a part of it
-  around : (from n : ℕ) → log ≡ take from log ++ (span from n log ++ drop n (drop from log))
-  around from n =
-      sym (take-append-drop from log) ∙ ap (λ (v : List ℕ). take from log ++ v) (sym (take-append-drop n (drop from log)))
-
-  -- a part of a log within the limits is within them
-  pub span-within : (from n : ℕ) → Within log → Within (span from n log)
-  span-within from n w = within-part (take from log) (span from n log) (drop n (drop from log)) (subst Within (around from n) w)
-
-  -- a part of a log has no more extents
-  pub span-extents : (from n : ℕ) → length (firsts (span from n log)) ≤ length (firsts log)
-  span-extents from n =
-      let f = firsts-longer (drop n (drop from log)) (span from n log) in
-      let b = back-extents (take from log) (span from n log ++ drop n (drop from log)) in
-      let e : length (firsts log) ≡ length (firsts (take from log ++ (span from n log ++ drop n (drop from log)))) = ap (λ (v : List ℕ). length (firsts v)) (around from n) in
-      omega arith
-
-  -- two parts end to end
-  pub span-append : (from k n taken : ℕ) → from + k ≡ taken → span from k log ++ span taken n log ≡ span from (k + n) log
-  span-append from k n taken e =
-      sym (take-add k n (drop from log) ∙ ap (λ (v : List ℕ). take k (drop from log) ++ take n v) (drop-drop k from log ∙ ap (λ (m : ℕ). drop m log) e))
-
-  -- a part and those reads with more after them
-  pub grown-words : (from k n : ℕ) → k ≤ n → length (summaryOf (span from k log)) ≤ length (summaryOf (span from n log))
-  grown-words from k n h =
-      let m : k + (n - k) ≡ n = omega arith in
-      let e : span from k log ++ span (from + k) (n - k) log ≡ span from n log = span-append from k (n - k) (from + k) refl ∙ ap (λ (i : ℕ). span from i log) m in
-      let l : length (summaryOf (span from k log ++ span (from + k) (n - k) log)) ≡ length (summaryOf (span from n log)) = ap (λ (v : List ℕ). length (summaryOf v)) e in
-      omega (arith, front-words (span from k log) (span (from + k) (n - k) log))
-
-  -- the words of a part's summary
-  pub span-words : (from n : ℕ) → length (summaryOf (span from n log)) ≤ 2 + 3 * length (firsts log)
-  span-words from n = omega (arith, length-summary (span from n log), span-extents from n)
 
 -- a join halfway: its parts up to the last read taken are joined at the front of the output
 pub record Halfway (s : List ℕ) (at d : ℕ) (log : List ℕ) (from left : ℕ) (work out : List ℕ) (t : Plan) (c : ℕ) (rest : List ℕ) (done : Done) (work′ out′ : List ℕ) : Type 0 where
@@ -95,23 +33,6 @@ pub record Halfway (s : List ℕ) (at d : ℕ) (log : List ℕ) (from left : ℕ
   pub counted : done .words ≡ length (summaryOf (span from so-far log))
   pub written : out′ ≡ fronted (summaryOf (span from so-far log)) out
   pub kept : drop (levelWords * left) work′ ≡ drop (levelWords * left) work
-
--- one level and those below it
-levels-more : (left : ℕ) → 0 < left → levelWords + levelWords * (left - 1) ≡ levelWords * left
-levels-more left h = omega arith
-
--- a part lent from one level on has the words of the levels below
-pub below-long : (work : List ℕ) (left : ℕ) → 0 < left → levelWords * left ≤ length work → length (midOf levelWords (length work - levelWords) work) ≡ length work - levelWords
-below-long work left h k = length-take-le (length work - levelWords) (drop levelWords work) (omega (arith, length-drop levelWords work))
-
--- words kept below a level are kept
-level-kept : (left : ℕ) (w y : List ℕ) → 0 < left → levelWords * left ≤ length w → length y ≡ length w - levelWords
-    → drop (levelWords * (left - 1)) y ≡ drop (levelWords * (left - 1)) (midOf levelWords (length w - levelWords) w)
-    → drop (levelWords * left) (putMid levelWords (length w - levelWords) w y) ≡ drop (levelWords * left) w
-level-kept left w y h k same e =
-    ap (λ (n : ℕ). drop n (putMid levelWords (length w - levelWords) w y)) (sym (levels-more left h))
-    ∙ back-kept levelWords w y (omega arith) same (levelWords * (left - 1)) e
-    ∙ ap (λ (n : ℕ). drop n w) (levels-more left h)
 
 module _ (s : List ℕ) (at d : ℕ) (log : List ℕ) (from left : ℕ) (work out : List ℕ) (t : Plan) (c : ℕ) (rest : List ℕ) (positive : 0 < left) (levels : levelWords * left ≤ length work) where
   -- the first part of a join
@@ -314,41 +235,6 @@ module _ (s : List ℕ) (at d : ℕ) (log : List ℕ) (from left : ℕ) (work ou
         kept = e .kept ∙ h .kept;
       }
 
--- a join's first part is ready
-abbrev pub ready-first : (s : List ℕ) (next d : ℕ) (log : List ℕ) (from left : ℕ) (t : Plan) (c : ℕ) (rest : List ℕ) → (o : Opened s next d t c rest) → depth t ≤ left → from + reads t ≤ length log
-    → Ready s next (d + 1) log from (left - 1)
-ready-first s next d log from left t c rest o deep covered = record {
-  plan = o .first;
-  closes = 0;
-  rest = partsText (suc d) (o .others) ++ (close c ++ (10 ∷ rest));
-  stands = subst (λ (x : ℕ). Stands (drop next s) x (o .first) 0 (partsText (suc d) (o .others) ++ (close c ++ (10 ∷ rest)))) (sym (add-one d)) (o .stands);
-  deep = omega (arith, o .deepens);
-  covered = omega (arith, o .covers);
-}
-
--- so is the next of the others
-abbrev pub ready-next : (s : List ℕ) (next d : ℕ) (log : List ℕ) (taken left c : ℕ) (rest : List ℕ) (end : ℕ) → (n : NextPart s (suc d) c rest end (left - 1) next taken) → end ≤ length log
-    → Ready s next (d + 1) log taken (left - 1)
-ready-next s next d log taken left c rest end n covered = record {
-  plan = n .part;
-  closes = n .closes;
-  rest = n .after;
-  stands = subst (λ (x : ℕ). Stands (drop next s) x (n .part) (n .closes) (n .after)) (sym (add-one d)) (n .stands);
-  deep = n .shallow;
-  covered = omega (arith, n .covered);
-}
-
--- the words lent for a level suffice for those below
-pub below-roomy : (s : List ℕ) (at d : ℕ) (log work out : List ℕ) (left : ℕ) → Roomy s at d log work out left → 0 < left → (next : ℕ) → next ≤ length s → (w o : List ℕ) → length w ≡ length work → length o ≡ length out
-    → Roomy s next (d + 1) log (midOf levelWords (length w - levelWords) w) o (left - 1)
-below-roomy s at d log work out left r p next h w o long wide = record {
-  inside = h;
-  joins = omega (arith, r .joins);
-  within = r .within;
-  levels = omega (arith, below-long w left p (omega (arith, r .levels)), r .levels);
-  room = omega (arith, r .room);
-}
-
 -- a seg is evaluated
 pub seg-done : (s : List ℕ) (at next : ℕ) (log : List ℕ) (from left : ℕ) (work out : List ℕ) (t : Plan) (c : ℕ) (rest : List ℕ) → Within log → 2 + 3 * length (firsts log) ≤ length out
     → at < next → next ≤ length s → (n k : ℕ) → (reads t ≡ n) × (k ≡ c) × (drop next s ≡ rest)
@@ -370,3 +256,17 @@ seg-done s at next log from left work out t c rest within room f i n k is words 
       kept = refl;
     } in
     subst (λ (v : Done). Evaluated s at log from left work out t c rest v work o) (sym p) q
+
+-- two summaries laid into a level's words: the one held before, the one put beside it, and what stands behind the level
+pub laid : (w out w′ : List ℕ) (held words : ℕ) → Holdable w out held words → w′ ≡ putAt w summaryWords (take words out)
+    → (take held w′ ≡ take held w) × (midOf summaryWords (summaryWords + words - summaryWords) w′ ≡ take words out) × (drop levelWords w′ ≡ drop levelWords w)
+laid w out w′ held words h e =
+    let n : length (take words out) ≡ words = length-take-le words out (h .fits) in
+    let f : summaryWords + length (take words out) ≤ length w = omega (arith, n, h .second, h .level) in
+    let m : summaryWords + words - summaryWords ≡ length (take words out) = omega (arith, n) in (
+      ap (take held) e ∙ put-before w summaryWords (take words out) f held (h .first),
+      ap (midOf summaryWords (summaryWords + words - summaryWords)) e
+          ∙ ap (λ (k : ℕ). midOf summaryWords k (putAt w summaryWords (take words out))) m
+          ∙ put-there w summaryWords (take words out) f,
+      ap (drop levelWords) e ∙ put-after w summaryWords (take words out) f levelWords (omega (arith, n, h .second)),
+    )

@@ -4,8 +4,9 @@ use summary::Written;
 ghost use mathlib.Core.Path.{_≡_};
 ghost use lib.ListN.{take, drop};
 ghost use Rattle.summary_calls.specs.Calls.{joinCall};
-ghost use Rattle.plan.specs.Calls.{levelWords};
-ghost use Rattle.plan.specs.Evaluation.{countOf, Ready, Roomy, Evaluates, Holdable};
+ghost use Rattle.plan_calls.specs.Calls.{levelWords, countOf};
+ghost use Rattle.plan_calls.specs.Standing.{Ready, Roomy};
+ghost use Rattle.plan.specs.Evaluation.{Evaluates, Holdable};
 
 // The words of the largest summary.
 const SUMMARY_WORDS: usize = 2 + 3 * reuse::MAX_EXTENTS;

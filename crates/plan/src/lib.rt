@@ -6,7 +6,7 @@ pub use plan_reader::PlanRead;
 pub use plan_reader::read;
 use summary::Written;
 ghost use mathlib.Core.Path.{_≡_};
-ghost use Rattle.plan.specs.Calls.{runCall, Accepted};
+ghost use Rattle.plan_calls.specs.Calls.{runCall, Accepted};
 
 // A plan text carried out on a log: the words of the log's summary at the front of `out`, its parts joined as the plan says.
 pub fn run(text: &[u8], log: &[u32], work: &mut [u32], out: &mut [u32]) -> Written

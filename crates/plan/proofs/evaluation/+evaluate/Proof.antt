@@ -12,11 +12,13 @@ use Rattle.summary_calls.specs.Calls.{Wrote, traceCall}
 use Rattle.texts.specs.Plans.{reads}
 use Rattle.texts.specs.PlanPlaces.{segAt, joinAt, lineAt}
 use Rattle.plan_lines.proofs.Lines.{seg-line, join-line, no-line}
-use Rattle.plan.specs.Evaluation.{countOf, span, Ready, Evaluated}
+use Rattle.plan_calls.specs.Calls.{countOf}
+use Rattle.plan_calls.specs.Standing.{span, Ready}
+use Rattle.plan_calls.proofs.Levels.{back-length, below-long}
+use Rattle.plan_calls.proofs.Standing.{Opened, NextPart, some-line, seg-there, join-there, next-part, ready-first, ready-next, below-roomy}
+use Rattle.plan.specs.Evaluation.{Evaluated}
 use Rattle.plan.specs.declared.evaluation.Done.{Done}
-use Rattle.plan.proofs.Evaluating.{Halfway, ready-first, ready-next, below-roomy, below-long, first-done, held-there, holdable, part-done, join-done, restart, resume, seg-done}
-use Rattle.plan.proofs.Levels.{back-length}
-use Rattle.plan.proofs.Standing.{Opened, NextPart, some-line, seg-there, join-there, next-part}
+use Rattle.plan.proofs.Evaluating.{Halfway, first-done, held-there, holdable, part-done, join-done, restart, resume, seg-done}
 use borrow.Author.Needs.{needs}
 use borrow.Fn.Kinds.{In}
 use borrow.Fn.PlainCycle.{Measures, is, falls, and}

@@ -8,8 +8,8 @@ use lib.Seq.{length-take-le}
 use borrow.Rule.Slice.PartMut.{midOf}
 use Rattle.reuse_copies.proofs.Puts.{placed-fits}
 use Rattle.summary_calls.specs.Calls.{joinCall, Wrote}
-use Rattle.plan.specs.Evaluation.{countOf}
-use Rattle.plan.proofs.Levels.{laid}
+use Rattle.plan_calls.specs.Calls.{countOf}
+use Rattle.plan.proofs.Evaluating.{laid}
 use borrow.Author.Needs.{needs}
 use Rattle.plan.proofs.evaluation.join_held.Statement.{statement}
 use Rattle.plan.proofs.evaluation.join_held.Tie as tie

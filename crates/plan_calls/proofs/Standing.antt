@@ -1,17 +1,21 @@
--- A plan that stands at a place of a text: the line found there, and the parts of a join one after the other.
-use mathlib.Core.Path.{_≡_, refl, sym, ap, _∙_}
-use Prim.Native.Nat.{ℕ, suc, _+_, _≤_, _<_, max}
+-- A plan that stands at a place of a text: the line found there, and the parts of a join one after the other, each ready.
+use mathlib.Core.Path.{_≡_, refl, sym, ap, subst, _∙_}
+use Prim.Native.Nat.{ℕ, suc, _+_, _-_, _≤_, _<_, max}
+use native.Mathlib.Numerals.{add-one}
 use native.Mathlib.Omega.{arith}
 use mathlib.Core.List.{List, _∷_, _++_, append-assoc}
 use mathlib.Core.Logic.{_⊎_, inl, inr}
-use lib.ListN.{drop}
+use lib.ListN.{length, drop}
+use borrow.Rule.Slice.PartMut.{midOf}
 use Rattle.texts.specs.Digits.{tooLong}
 use Rattle.texts.specs.Words.{close}
 use Rattle.texts.specs.Plans.{Plan, Parts, seg, join, last, more, formText, partsText, reads, partsReads, depth, partsDepth, largest, partsLargest}
 use Rattle.texts.specs.PlanPlaces.{segAt, joinAt, badAt, lineAt}
 use Rattle.texts.proofs.Tests.{never}
 use Rattle.texts.proofs.PlanPlaces.{seg-at, join-at}
-use Rattle.plan.specs.Evaluation.{Stands}
+use Rattle.plan_calls.specs.Calls.{levelWords}
+use Rattle.plan_calls.specs.Standing.{Stands, Ready, Roomy}
+use Rattle.plan_calls.proofs.Levels.{below-long}
 
 -- a join that stands there, by its first part and the others
 pub record Opened (s : List ℕ) (next d : ℕ) (t : Plan) (c : ℕ) (rest : List ℕ) : Type 0 where
@@ -114,3 +118,38 @@ module _ (s : List ℕ) (d c : ℕ) (rest : List ℕ) (end deep next taken : ℕ
   pub no-part : (closes : ℕ) → Pending s d c rest end deep closes next taken → (closes ≡ 0 → ⊥) → (closes ≡ suc c) × (drop next s ≡ rest) × (taken ≡ end)
   no-part closes (inl p) z = absurd (z (p .1))
   no-part closes (inr p) z = p
+
+-- a join's first part is ready
+abbrev pub ready-first : (s : List ℕ) (next d : ℕ) (log : List ℕ) (from left : ℕ) (t : Plan) (c : ℕ) (rest : List ℕ) → (o : Opened s next d t c rest) → depth t ≤ left → from + reads t ≤ length log
+    → Ready s next (d + 1) log from (left - 1)
+ready-first s next d log from left t c rest o deep covered = record {
+  plan = o .first;
+  closes = 0;
+  rest = partsText (suc d) (o .others) ++ (close c ++ (10 ∷ rest));
+  stands = subst (λ (x : ℕ). Stands (drop next s) x (o .first) 0 (partsText (suc d) (o .others) ++ (close c ++ (10 ∷ rest)))) (sym (add-one d)) (o .stands);
+  deep = omega (arith, o .deepens);
+  covered = omega (arith, o .covers);
+}
+
+-- so is the next of the others
+abbrev pub ready-next : (s : List ℕ) (next d : ℕ) (log : List ℕ) (taken left c : ℕ) (rest : List ℕ) (end : ℕ) → (n : NextPart s (suc d) c rest end (left - 1) next taken) → end ≤ length log
+    → Ready s next (d + 1) log taken (left - 1)
+ready-next s next d log taken left c rest end n covered = record {
+  plan = n .part;
+  closes = n .closes;
+  rest = n .after;
+  stands = subst (λ (x : ℕ). Stands (drop next s) x (n .part) (n .closes) (n .after)) (sym (add-one d)) (n .stands);
+  deep = n .shallow;
+  covered = omega (arith, n .covered);
+}
+
+-- the words lent for a level suffice for those below
+pub below-roomy : (s : List ℕ) (at d : ℕ) (log work out : List ℕ) (left : ℕ) → Roomy s at d log work out left → 0 < left → (next : ℕ) → next ≤ length s → (w o : List ℕ) → length w ≡ length work → length o ≡ length out
+    → Roomy s next (d + 1) log (midOf levelWords (length w - levelWords) w) o (left - 1)
+below-roomy s at d log work out left r p next h w o long wide = record {
+  inside = h;
+  joins = omega (arith, r .joins);
+  within = r .within;
+  levels = omega (arith, below-long w left p (omega (arith, r .levels)), r .levels);
+  room = omega (arith, r .room);
+}
