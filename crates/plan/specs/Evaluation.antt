@@ -5,7 +5,7 @@ use mathlib.Core.List.{List}
 use lib.ListN.{length, drop}
 use Rattle.reuse.specs.Summary.{summaryOf}
 use Rattle.texts.specs.Plans.{Plan, reads}
-use Rattle.plan_calls.specs.Calls.{summaryWords, levelWords, fronted}
+use Rattle.plan_calls.specs.Calls.{levelWords, fronted}
 use Rattle.plan_calls.specs.Standing.{span, Ready}
 use Rattle.plan.specs.declared.evaluation.Done.{Done}
 
@@ -24,10 +24,3 @@ pub record Evaluated (s : List ℕ) (at : ℕ) (log : List ℕ) (from left : ℕ
 abbrev pub Evaluates : List ℕ → ℕ → ℕ → List ℕ → ℕ → ℕ → List ℕ → List ℕ → Done → List ℕ → List ℕ → Type 0
 Evaluates s at under log from left work out r work′ out′ =
     (g : Ready s at under log from left) → Evaluated s at log from left work out (g .plan) (g .closes) (g .rest) r work′ out′
-
--- two summaries that can be joined in a level's words
-pub record Holdable (work out : List ℕ) (held words : ℕ) : Type 0 where
-  pub level : levelWords ≤ length work
-  pub first : held ≤ summaryWords
-  pub second : words ≤ summaryWords
-  pub fits : words ≤ length out

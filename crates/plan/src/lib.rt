@@ -40,7 +40,7 @@ fn carry_out(text: &[u8], log: &[u32], work: &mut [u32], out: &mut [u32], depth:
     if reuse::MAX_EXTENTS < extents {
         return Written::Refused(9);
     }
-    let levels = evaluation::LEVEL * depth;
+    let levels = plan_joins::LEVEL * depth;
     if work.len() < levels {
         return Written::Refused(6);
     }

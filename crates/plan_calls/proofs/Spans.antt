@@ -1,6 +1,6 @@
 -- Parts of a log: within its limits, with no more extents and no longer summaries, and end to end.
-use mathlib.Core.Path.{_≡_, refl, sym, ap, subst, _∙_}
-use Prim.Native.Nat.{ℕ, _+_, _-_, _*_, _≤_}
+use mathlib.Core.Path.{_≡_, sym, ap, subst, _∙_}
+use Prim.Native.Nat.{ℕ, _+_, _*_, _≤_}
 use native.Mathlib.Omega.{arith}
 use mathlib.Core.List.{List, [], _∷_, _++_}
 use lib.ListN.{length, take, drop, take-append-drop}
@@ -49,14 +49,6 @@ module _ (log : List ℕ) where
   pub span-append : (from k n taken : ℕ) → from + k ≡ taken → span from k log ++ span taken n log ≡ span from (k + n) log
   span-append from k n taken e =
       sym (take-add k n (drop from log) ∙ ap (λ (v : List ℕ). take k (drop from log) ++ take n v) (drop-drop k from log ∙ ap (λ (m : ℕ). drop m log) e))
-
-  -- a part and those reads with more after them
-  pub grown-words : (from k n : ℕ) → k ≤ n → length (summaryOf (span from k log)) ≤ length (summaryOf (span from n log))
-  grown-words from k n h =
-      let m : k + (n - k) ≡ n = omega arith in
-      let e : span from k log ++ span (from + k) (n - k) log ≡ span from n log = span-append from k (n - k) (from + k) refl ∙ ap (λ (i : ℕ). span from i log) m in
-      let l : length (summaryOf (span from k log ++ span (from + k) (n - k) log)) ≡ length (summaryOf (span from n log)) = ap (λ (v : List ℕ). length (summaryOf v)) e in
-      omega (arith, front-words (span from k log) (span (from + k) (n - k) log))
 
   -- the words of a part's summary
   pub span-words : (from n : ℕ) → length (summaryOf (span from n log)) ≤ 2 + 3 * length (firsts log)

@@ -17,14 +17,13 @@ use Rattle.plan_calls.specs.Calls.{levelWords}
 use Rattle.plan_calls.specs.Standing.{Stands, Ready, Roomy}
 use Rattle.plan_calls.proofs.Levels.{below-long}
 
--- a join that stands there, by its first part and the others
+-- a join that stands there, by its parts
 pub record Opened (s : List ℕ) (next d : ℕ) (t : Plan) (c : ℕ) (rest : List ℕ) : Type 0 where
-  pub first : Plan
-  pub others : Parts
-  pub stands : Stands (drop next s) (suc d) first 0 (partsText (suc d) others ++ (close c ++ (10 ∷ rest)))
-  pub covers : reads t ≡ reads first + partsReads others
-  pub deepens : depth t ≡ suc (max (depth first) (partsDepth others))
-  pub ruled : partsLargest others < tooLong
+  pub parts : Parts
+  pub printed : drop next s ≡ partsText (suc d) parts ++ (close c ++ (10 ∷ rest))
+  pub covers : reads t ≡ partsReads parts
+  pub deepens : depth t ≡ suc (partsDepth parts)
+  pub ruled : partsLargest parts < tooLong
 
 module _ (s : List ℕ) (at d : ℕ) where
   -- a seg is found as one
@@ -54,28 +53,28 @@ module _ (s : List ℕ) (at d : ℕ) where
     seg-there (join p ps) c rest g n k e =
         let q : segAt n k (drop next s) ≡ joinAt (formText (suc d) p ++ (10 ∷ (partsText (suc d) ps ++ (close c ++ (10 ∷ rest))))) = e ∙ join-found p ps c rest g in never (cc)
 
-    -- the line of an opened join: the plan is a join, and its first part stands next
+    -- the line of an opened join: the plan is a join, and its parts stand next
     pub join-there : (t : Plan) (c : ℕ) (rest : List ℕ) → Stands (drop at s) d t c rest → joinAt (drop next s) ≡ lineAt d (drop at s) → Opened s next d t c rest
-    unfolding reads depth largest
+    unfolding partsText reads partsReads depth partsDepth largest partsLargest
     join-there (seg m) c rest g e = let q : joinAt (drop next s) ≡ segAt m c rest = e ∙ seg-found m c rest g in never (cc)
     join-there (join p ps) c rest g e =
         let q : joinAt (drop next s) ≡ joinAt (formText (suc d) p ++ (10 ∷ (partsText (suc d) ps ++ (close c ++ (10 ∷ rest))))) = e ∙ join-found p ps c rest g in
+        let l : drop next s ≡ formText (suc d) p ++ (10 ∷ (partsText (suc d) ps ++ (close c ++ (10 ∷ rest)))) = cc in
         record {
-          first = p;
-          others = ps;
-          stands = record { printed = cc; ruled = let r = g .ruled in omega arith };
+          parts = more p ps;
+          printed = l ∙ simp append-assoc;
           covers = refl;
           deepens = refl;
-          ruled = let r = g .ruled in omega arith;
+          ruled = g .ruled;
         }
 
--- what is left of a join under d brackets that ends with the read `end`: other parts, no deeper than `deep`; or c brackets after it, and the rest
+-- what is left of a join under d brackets that ends with the read `end`: parts, no deeper than `deep`; or c brackets after it, and the rest
 abbrev pub Pending : List ℕ → ℕ → ℕ → List ℕ → ℕ → ℕ → ℕ → ℕ → ℕ → Type 0
 Pending s d c rest end deep closes next taken =
     ((ps : Parts) × (closes ≡ 0) × (drop next s ≡ partsText d ps ++ (close c ++ (10 ∷ rest))) × (partsLargest ps < tooLong) × (partsDepth ps ≤ deep) × (taken + partsReads ps ≡ end))
     ⊎ ((closes ≡ suc c) × (drop next s ≡ rest) × (taken ≡ end))
 
--- the next of the other parts
+-- the next of the parts left
 pub record NextPart (s : List ℕ) (d c : ℕ) (rest : List ℕ) (end deep next taken : ℕ) : Type 0 where
   pub part : Plan
   pub closes : ℕ
@@ -86,7 +85,7 @@ pub record NextPart (s : List ℕ) (d c : ℕ) (rest : List ℕ) (end deep next 
   pub then : (closes′ next′ taken′ : ℕ) → closes′ ≡ closes → drop next′ s ≡ after → taken′ ≡ taken + reads part → Pending s d c rest end deep closes′ next′ taken′
 
 module _ (s : List ℕ) (d c : ℕ) (rest : List ℕ) (end deep next taken : ℕ) where
-  -- other parts are left: one of them is next
+  -- parts are left: one of them is next
   part-of : (ps : Parts) → drop next s ≡ partsText d ps ++ (close c ++ (10 ∷ rest)) → partsLargest ps < tooLong → partsDepth ps ≤ deep → taken + partsReads ps ≡ end
       → NextPart s d c rest end deep next taken
   unfolding partsText partsLargest partsDepth partsReads
@@ -119,19 +118,7 @@ module _ (s : List ℕ) (d c : ℕ) (rest : List ℕ) (end deep next taken : ℕ
   no-part closes (inl p) z = absurd (z (p .1))
   no-part closes (inr p) z = p
 
--- a join's first part is ready
-abbrev pub ready-first : (s : List ℕ) (next d : ℕ) (log : List ℕ) (from left : ℕ) (t : Plan) (c : ℕ) (rest : List ℕ) → (o : Opened s next d t c rest) → depth t ≤ left → from + reads t ≤ length log
-    → Ready s next (d + 1) log from (left - 1)
-ready-first s next d log from left t c rest o deep covered = record {
-  plan = o .first;
-  closes = 0;
-  rest = partsText (suc d) (o .others) ++ (close c ++ (10 ∷ rest));
-  stands = subst (λ (x : ℕ). Stands (drop next s) x (o .first) 0 (partsText (suc d) (o .others) ++ (close c ++ (10 ∷ rest)))) (sym (add-one d)) (o .stands);
-  deep = omega (arith, o .deepens);
-  covered = omega (arith, o .covers);
-}
-
--- so is the next of the others
+-- the next part is ready
 abbrev pub ready-next : (s : List ℕ) (next d : ℕ) (log : List ℕ) (taken left c : ℕ) (rest : List ℕ) (end : ℕ) → (n : NextPart s (suc d) c rest end (left - 1) next taken) → end ≤ length log
     → Ready s next (d + 1) log taken (left - 1)
 ready-next s next d log taken left c rest end n covered = record {
