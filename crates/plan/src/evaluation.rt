@@ -25,18 +25,6 @@ fn count_of(answer: Written) -> usize
     }
 }
 
-// How far evaluation has come, by its four numbers.
-fn past(next: usize, closes: usize, taken: usize, words: usize) -> Done
-    ensures { λ r. ⌜ r ≡ record { next = next; closes = closes; taken = taken; words = words } ⌝ }
-{
-    Done {
-        next,
-        closes,
-        taken,
-        words,
-    }
-}
-
 // The plan at `at` under `under` joins, on the log's reads from `from` on, with `left` levels of work words.
 pub fn evaluate(
     s: &[u8],
@@ -51,32 +39,41 @@ pub fn evaluate(
     requires { ⌜ Ready (now s) at under (now log) from left × Roomy (now s) at under (now log) (now work) (now out) left ⌝ }
     ensures { λ r. ⌜ Evaluates (now (s .entry)) at under (now (log .entry)) from left (now (work .entry)) (now (out .entry)) r (now (work .exit)) (now (out .exit)) ⌝ }
 {
+    let mut done = Done {
+        next: at,
+        closes: 0,
+        taken: from,
+        words: 0,
+    };
     let l = plan_lines::line_at(s, at, under);
     match l {
-        Line::Bad => past(at, 0, from, 0),
+        Line::Bad => done,
         Line::Seg {
             reads,
             closes,
             next,
         } => {
             let end = from + reads as usize;
-            let words = count_of(summary::of_trace(&log[from..end], out));
-            past(next, closes, end, words)
+            done.next = next;
+            done.closes = closes;
+            done.taken = end;
+            done.words = count_of(summary::of_trace(&log[from..end], out));
+            done
         }
         Line::Join { next } => {
             let inner = under + 1;
             let below = left - 1;
-            let mut done = past(next, 0, from, 0);
+            done.next = next;
             while done.closes == 0 {
                 let held = done.words;
                 let here = done.next;
                 let taken = done.taken;
                 reuse_copies::put(work, 0, &out[..held]);
-                let part = evaluate(s, here, inner, log, taken, below, &mut work[LEVEL..], out);
-                let words = plan_joins::join_held(work, held, out, part.words);
-                done = past(part.next, part.closes, part.taken, words);
+                done = evaluate(s, here, inner, log, taken, below, &mut work[LEVEL..], out);
+                done.words = plan_joins::join_held(work, held, out, done.words);
             }
-            past(done.next, done.closes - 1, done.taken, done.words)
+            done.closes = done.closes - 1;
+            done
         }
     }
 }
