@@ -1,5 +1,5 @@
 -- The call that carries a plan out: a law for each way that it returns.
-use mathlib.Core.Path.{_≡_, refl, sym, ap, _∙_}
+use mathlib.Core.Path.{_≡_, sym, ap, _∙_}
 use Prim.Native.Nat.{ℕ, _+_, _*_, _≤_, _<_}
 use native.Mathlib.Omega.{arith}
 use mathlib.Core.List.{List, [], _++_}
@@ -18,7 +18,7 @@ use Rattle.texts.specs.Lines.{Read, got}
 use Rattle.texts.specs.Plans.{Plan, textOf, reads, depth}
 use Rattle.texts.specs.PlanTexts.{planOf}
 use Rattle.texts.proofs.PlanSound.{sound}
-use Rattle.plan_calls.specs.Calls.{levelWords, workWords, cleared, fronted, Ran, declined, carriedOut, planCall, runBy, runCall}
+use Rattle.plan_calls.specs.Calls.{levelWords, workWords, cleared, fronted, Ran, carriedOut, planCall, runBy, runCall}
 use Rattle.plan_calls.specs.Standing.{span, Stands, Ready, Roomy}
 
 -- what a call answers and leaves, by its definition

@@ -1,5 +1,5 @@
 -- `plan_joins::join_held` meets its contract.
-use mathlib.Core.Path.{_≡_, sym, ap, _∙_}
+use mathlib.Core.Path.{_≡_, sym, _∙_}
 use native.Mathlib.Omega.{arith}
 use lib.Seq.{length-take-le}
 use Rattle.summary_calls.specs.declared.Written.{Written}
