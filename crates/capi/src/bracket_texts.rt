@@ -1,6 +1,6 @@
 // Texts in lent memory: a plan carried out on a log, and a log text listed.
 ghost use mathlib.Core.Path.{_≡_};
-ghost use Rattle.plan.specs.Calls.{runCall};
+ghost use Rattle.plan_calls.specs.Calls.{runCall};
 ghost use Rattle.capi_answers.specs.Answers.{counted};
 ghost use Rattle.listing_memory.specs.Calls.{listCall};
 

@@ -19,7 +19,7 @@ use Rattle.texts.specs.Lines.{Read, got, refused as faulty}
 use Rattle.texts.specs.Logs.{logOf}
 use Rattle.texts.specs.Plans.{Plan, reads}
 use Rattle.texts.specs.PlanTexts.{planOf}
-use Rattle.plan.specs.Calls.{Ran, workWords, carriedOut, planCall, runBy, runCall}
+use Rattle.plan_calls.specs.Calls.{Ran, workWords, carriedOut, planCall, runBy, runCall}
 use Rattle.listing_memory.specs.Calls.{listBy, listCall}
 use Rattle.session_words.specs.Layout.{sessionLength, sessionIn}
 use Rattle.session_words.specs.Calls.{newSession, summaryIn}

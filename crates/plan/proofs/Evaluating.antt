@@ -1,89 +1,33 @@
--- Evaluation, step by step: a seg, a join's first part, each other part joined to those before it, and the end of the join.
+-- Evaluation, step by step: a seg, the begin of a join, each part joined to those before it, and the end of the join.
 use mathlib.Core.Path.{_≡_, refl, sym, ap, subst, _∙_}
 use Prim.Native.Nat.{ℕ, suc, _+_, _-_, _*_, _≤_, _<_}
 use native.Mathlib.Omega.{arith}
-use mathlib.Core.List.{List, [], _∷_, _++_}
-use lib.ListN.{length, take, drop, length-append, length-drop, take-append-drop}
-use lib.Seq.{take-add, drop-drop, length-take-le}
-use native.Mathlib.Numerals.{add-one}
-use borrow.Author.Tests.{le-leb}
+use mathlib.Core.List.{List, [], _++_}
+use mathlib.Core.Logic.{_⊎_, inl, inr}
+use lib.ListN.{length, take, drop}
+use lib.Seq.{drop-drop, length-take-le}
 use borrow.Rule.Slice.PartMut.{midOf, putMid}
 use Rattle.reuse.specs.Lists.{firsts}
 use Rattle.reuse.specs.Summary.{summaryOf}
 use Rattle.reuse.specs.Traces.{Within}
 use Rattle.reuse.proofs.Words.{length-summary}
-use Rattle.reuse.proofs.Lists.{firsts-longer}
-use Rattle.reuse.proofs.Formed.{firsts-grow}
-use Rattle.reuse.proofs.Traces.{within-part}
 use Rattle.reuse_rows.specs.Rows.{putAt}
 use Rattle.summary_calls.specs.Calls.{Wrote, wrote, joinCall, traceCall}
 use Rattle.summary_calls.proofs.Traces.{join-trace, trace-within}
-use mathlib.Core.Logic.{inl, inr}
-use Rattle.texts.specs.Words.{close}
-use Rattle.texts.specs.Plans.{Plan, partsText, reads, depth}
-use Rattle.plan.specs.Calls.{summaryWords, levelWords, fronted}
-use Rattle.plan.specs.Evaluation.{countOf, span, Stands, Ready, Roomy, Evaluated, Holdable}
+use Rattle.texts.specs.Plans.{Plan, reads, depth}
+use Rattle.plan_calls.specs.Calls.{summaryWords, levelWords, countOf, fronted}
+use Rattle.plan_calls.specs.Standing.{span}
+use Rattle.plan_calls.proofs.Spans.{back-words, front-words, span-within, span-append, span-words}
+use Rattle.plan_calls.proofs.Levels.{put-there, put-after, back-before, back-length, front-there, front-again, wrote-front, levels-more, level-kept}
+use Rattle.plan_calls.proofs.Standing.{Opened, Pending, NextPart, no-part}
+use Rattle.plan_joins.specs.Calls.{Joined, joinedHeld, joinHeld}
+use Rattle.plan_joins.proofs.Joins.{Holdable, none-held, one-held, behind-kept}
+use Rattle.plan.specs.Evaluation.{Evaluated}
 use Rattle.plan.specs.declared.evaluation.Done.{Done}
-use Rattle.plan.proofs.Levels.{put-there, put-after, back-before, back-kept, back-length, front-there, front-again}
-use Rattle.plan.proofs.Standing.{Opened, Pending, NextPart, no-part}
 
--- words written where there is room
-pub wrote-front : (w buffer : List ℕ) → length w ≤ length buffer → (wrote w buffer .buffer ≡ fronted w buffer) × (countOf (wrote w buffer .answer) ≡ length w)
-unfolding wrote fronted
-wrote-front w buffer h = (rw (le-leb (length w) (length buffer) h), rw (le-leb (length w) (length buffer) h))
-
--- as long as before
-pub front-length : (w buffer : List ℕ) → length w ≤ length buffer → length (fronted w buffer) ≡ length buffer
-unfolding fronted
-front-length w buffer h = length-append w (drop (length w) buffer) ∙ omega (arith, length-drop (length w) buffer)
-
--- the back of a log has no more extents
-back-extents : (a b : List ℕ) → length (firsts b) ≤ length (firsts (a ++ b))
-back-extents [] b = omega arith
-back-extents (x ∷ a) b = omega (arith, back-extents a b, firsts-grow x (a ++ b))
-
--- nor has its summary more words
-back-words : (a b : List ℕ) → length (summaryOf b) ≤ length (summaryOf (a ++ b))
-back-words a b = omega (arith, length-summary b, length-summary (a ++ b), back-extents a b)
-
--- the same of the front
-front-words : (a b : List ℕ) → length (summaryOf a) ≤ length (summaryOf (a ++ b))
-front-words a b = omega (arith, length-summary a, length-summary (a ++ b), firsts-longer b a)
-
-module _ (log : List ℕ) where
-  -- a log, around a part of it
-  around : (from n : ℕ) → log ≡ take from log ++ (span from n log ++ drop n (drop from log))
-  around from n =
-      sym (take-append-drop from log) ∙ ap (λ (v : List ℕ). take from log ++ v) (sym (take-append-drop n (drop from log)))
-
-  -- a part of a log within the limits is within them
-  pub span-within : (from n : ℕ) → Within log → Within (span from n log)
-  span-within from n w = within-part (take from log) (span from n log) (drop n (drop from log)) (subst Within (around from n) w)
-
-  -- a part of a log has no more extents
-  pub span-extents : (from n : ℕ) → length (firsts (span from n log)) ≤ length (firsts log)
-  span-extents from n =
-      let f = firsts-longer (drop n (drop from log)) (span from n log) in
-      let b = back-extents (take from log) (span from n log ++ drop n (drop from log)) in
-      let e : length (firsts log) ≡ length (firsts (take from log ++ (span from n log ++ drop n (drop from log)))) = ap (λ (v : List ℕ). length (firsts v)) (around from n) in
-      omega arith
-
-  -- two parts end to end
-  pub span-append : (from k n taken : ℕ) → from + k ≡ taken → span from k log ++ span taken n log ≡ span from (k + n) log
-  span-append from k n taken e =
-      sym (take-add k n (drop from log) ∙ ap (λ (v : List ℕ). take k (drop from log) ++ take n v) (drop-drop k from log ∙ ap (λ (m : ℕ). drop m log) e))
-
-  -- a part and those reads with more after them
-  pub grown-words : (from k n : ℕ) → k ≤ n → length (summaryOf (span from k log)) ≤ length (summaryOf (span from n log))
-  grown-words from k n h =
-      let m : k + (n - k) ≡ n = omega arith in
-      let e : span from k log ++ span (from + k) (n - k) log ≡ span from n log = span-append from k (n - k) (from + k) refl ∙ ap (λ (i : ℕ). span from i log) m in
-      let l : length (summaryOf (span from k log ++ span (from + k) (n - k) log)) ≡ length (summaryOf (span from n log)) = ap (λ (v : List ℕ). length (summaryOf v)) e in
-      omega (arith, front-words (span from k log) (span (from + k) (n - k) log))
-
-  -- the words of a part's summary
-  pub span-words : (from n : ℕ) → length (summaryOf (span from n log)) ≤ 2 + 3 * length (firsts log)
-  span-words from n = omega (arith, length-summary (span from n log), span-extents from n)
+-- the words held when n reads from a place on are taken: none before the first part, then their summary
+abbrev pub Begun : List ℕ → ℕ → ℕ → ℕ → List ℕ → Type 0
+Begun log from n closes held = ((held ≡ []) × (n ≡ 0) × (closes ≡ 0)) ⊎ (held ≡ summaryOf (span from n log))
 
 -- a join halfway: its parts up to the last read taken are joined at the front of the output
 pub record Halfway (s : List ℕ) (at d : ℕ) (log : List ℕ) (from left : ℕ) (work out : List ℕ) (t : Plan) (c : ℕ) (rest : List ℕ) (done : Done) (work′ out′ : List ℕ) : Type 0 where
@@ -92,59 +36,49 @@ pub record Halfway (s : List ℕ) (at d : ℕ) (log : List ℕ) (from left : ℕ
   pub pending : Pending s (suc d) c rest (from + reads t) (left - 1) (done .closes) (done .next) (done .taken)
   pub so-far : ℕ
   pub taken : done .taken ≡ from + so-far
-  pub counted : done .words ≡ length (summaryOf (span from so-far log))
-  pub written : out′ ≡ fronted (summaryOf (span from so-far log)) out
+  pub held : List ℕ
+  pub begun : Begun log from so-far (done .closes) held
+  pub counted : done .words ≡ length held
+  pub written : out′ ≡ fronted held out
   pub kept : drop (levelWords * left) work′ ≡ drop (levelWords * left) work
 
--- one level and those below it
-levels-more : (left : ℕ) → 0 < left → levelWords + levelWords * (left - 1) ≡ levelWords * left
-levels-more left h = omega arith
+module _ (s : List ℕ) (at d : ℕ) (log : List ℕ) (from left : ℕ) (work out : List ℕ) (t : Plan) (c : ℕ) (rest : List ℕ) where
+  -- the begin of a join
+  pub begin : (next : ℕ) → at < next → next ≤ length s → Opened s next d t c rest → depth t ≤ left → (r : Done) → r ≡ record { next = next; closes = 0; taken = from; words = 0 }
+      → Halfway s at d log from left work out t c rest r work out
+  unfolding fronted
+  begin next f i o deep r p =
+      let done : Done = record { next = next; closes = 0; taken = from; words = 0 } in
+      let q : Halfway s at d log from left work out t c rest done work out = record {
+        forward = f;
+        inside = i;
+        pending = inl (o .parts, refl, o .printed, o .ruled, omega (arith, o .deepens), omega (arith, o .covers));
+        so-far = 0;
+        taken = omega arith;
+        held = [];
+        begun = inl (refl, refl, refl);
+        counted = refl;
+        written = refl;
+        kept = refl;
+      } in
+      subst (λ (v : Done). Halfway s at d log from left work out t c rest v work out) (sym p) q
 
--- a part lent from one level on has the words of the levels below
-pub below-long : (work : List ℕ) (left : ℕ) → 0 < left → levelWords * left ≤ length work → length (midOf levelWords (length work - levelWords) work) ≡ length work - levelWords
-below-long work left h k = length-take-le (length work - levelWords) (drop levelWords work) (omega (arith, length-drop levelWords work))
+  module _ (positive : 0 < left) (levels : levelWords * left ≤ length work) (within : Within log) (room : 2 + 3 * length (firsts log) ≤ length out)
+      (done : Done) (w o : List ℕ) (h : Halfway s at d log from left work out t c rest done w o) (long : length w ≡ length work) (wide : length o ≡ length out) where
+    -- the words held are no more than those of the log's summary
+    held-words : length (h .held) ≤ 2 + 3 * length (firsts log)
+    held-words = by (h .begun)
+      where
+        by : Begun log from (h .so-far) (done .closes) (h .held) → length (h .held) ≤ 2 + 3 * length (firsts log)
+        by (inl p) = omega (arith, ap length (p .0))
+        by (inr p) = omega (arith, ap length p, span-words log from (h .so-far))
 
--- words kept below a level are kept
-level-kept : (left : ℕ) (w y : List ℕ) → 0 < left → levelWords * left ≤ length w → length y ≡ length w - levelWords
-    → drop (levelWords * (left - 1)) y ≡ drop (levelWords * (left - 1)) (midOf levelWords (length w - levelWords) w)
-    → drop (levelWords * left) (putMid levelWords (length w - levelWords) w y) ≡ drop (levelWords * left) w
-level-kept left w y h k same e =
-    ap (λ (n : ℕ). drop n (putMid levelWords (length w - levelWords) w y)) (sym (levels-more left h))
-    ∙ back-kept levelWords w y (omega arith) same (levelWords * (left - 1)) e
-    ∙ ap (λ (n : ℕ). drop n w) (levels-more left h)
-
-module _ (s : List ℕ) (at d : ℕ) (log : List ℕ) (from left : ℕ) (work out : List ℕ) (t : Plan) (c : ℕ) (rest : List ℕ) (positive : 0 < left) (levels : levelWords * left ≤ length work) where
-  -- the first part of a join
-  pub first-done : (next : ℕ) → at < next → (o : Opened s next d t c rest) → depth t ≤ left → (r : Done) (y out′ : List ℕ) → length y ≡ length work - levelWords
-      → Evaluated s next log from (left - 1) (midOf levelWords (length work - levelWords) work) out (o .first) 0 (partsText (suc d) (o .others) ++ (close c ++ (10 ∷ rest))) r y out′
-      → Halfway s at d log from left work out t c rest r (putMid levelWords (length work - levelWords) work y) out′
-  first-done next f o deep r y out′ same e = record {
-    forward = omega (arith, e .forward);
-    inside = e .inside;
-    pending = inl (o .others, e .brackets, e .goes-on, o .ruled, omega (arith, o .deepens), omega (arith, e .taken, o .covers));
-    so-far = reads (o .first);
-    taken = e .taken;
-    counted = e .counted;
-    written = e .written;
-    kept = level-kept left work y positive levels same (e .kept);
-  }
-
-  module _ (done : Done) (w o : List ℕ) (h : Halfway s at d log from left work out t c rest done w o) (within : Within log)
-      (long : length w ≡ length work) (wide : length o ≡ length out) (room : 2 + 3 * length (firsts log) ≤ length out) where
-    -- the words joined so far
-    abbrev held : List ℕ
-    held = summaryOf (span from (h .so-far) log)
-
-    -- they fit a half of the level
-    held-fits : (length held ≤ summaryWords) × (length held ≤ length out)
-    held-fits = (omega (arith, span-words log from (h .so-far), within .extents), omega (arith, span-words log from (h .so-far)))
-
-    -- they stand at the front of the output
-    pub held-there : (done .words ≤ summaryWords) × (done .words ≤ length o) × (take (done .words) o ≡ held)
+    -- they stand at the front of the output, and fit a half of the level
+    pub held-there : (done .words ≤ summaryWords) × (done .words ≤ length o) × (take (done .words) o ≡ h .held)
     held-there = (
-      omega (arith, h .counted, held-fits .0),
-      omega (arith, h .counted, held-fits .1),
-      ap (λ (n : ℕ). take n o) (h .counted) ∙ ap (take (length held)) (h .written) ∙ front-there held out,
+      omega (arith, h .counted, held-words, within .extents),
+      omega (arith, h .counted, held-words),
+      ap (λ (n : ℕ). take n o) (h .counted) ∙ ap (take (length (h .held))) (h .written) ∙ front-there (h .held) out,
     )
 
     module _ (n : NextPart s (suc d) c rest (from + reads t) (left - 1) (done .next) (done .taken)) (w1 : List ℕ) (copied : w1 ≡ putAt w 0 (take (done .words) o)) (long1 : length w1 ≡ length w)
@@ -159,33 +93,30 @@ module _ (s : List ℕ) (at d : ℕ) (log : List ℕ) (from left : ℕ) (work ou
       w2 = putMid levelWords (length w1 - levelWords) w1 y
 
       -- they are no more than the log's
-      fresh-fits : (length fresh ≤ summaryWords) × (length fresh ≤ length out)
-      fresh-fits = (
-        omega (arith, span-words log (done .taken) (reads (n .part)), within .extents),
-        omega (arith, span-words log (done .taken) (reads (n .part))),
-      )
+      fresh-words : length fresh ≤ 2 + 3 * length (firsts log)
+      fresh-words = span-words log (done .taken) (reads (n .part))
 
       -- the held words still stand in the first half
-      still-held : take (done .words) w2 ≡ held
+      still-held : take (done .words) w2 ≡ h .held
       still-held =
-          let n : length (take (done .words) o) ≡ done .words = length-take-le (done .words) o (held-there .1) in
+          let k : length (take (done .words) o) ≡ done .words = length-take-le (done .words) o (held-there .1) in
           back-before levelWords w1 y (omega arith) same (done .words) (omega (arith, held-there .0))
           ∙ ap (take (done .words)) copied
-          ∙ ap (λ (k : ℕ). take k (putAt w 0 (take (done .words) o))) (sym n)
-          ∙ put-there w 0 (take (done .words) o) (omega (arith, n, held-there .0))
+          ∙ ap (λ (m : ℕ). take m (putAt w 0 (take (done .words) o))) (sym k)
+          ∙ put-there w 0 (take (done .words) o) (omega (arith, k, held-there .0))
           ∙ held-there .2
 
       -- the part's words stand at the front of the output
       fresh-there : take (part .words) o2 ≡ fresh
-      fresh-there = ap (λ (n : ℕ). take n o2) (e .counted) ∙ ap (take (length fresh)) (e .written) ∙ front-there fresh o
+      fresh-there = ap (λ (m : ℕ). take m o2) (e .counted) ∙ ap (take (length fresh)) (e .written) ∙ front-there fresh o
 
       -- both can be joined
-      pub holdable : Holdable w2 o2 (done .words) (part .words)
+      holdable : Holdable w2 (done .words) o2 (part .words)
       holdable = record {
         level = omega (arith, back-length levelWords w1 y (omega arith) same);
         first = held-there .0;
-        second = omega (arith, e .counted, fresh-fits .0);
-        fits = omega (arith, e .counted, fresh-fits .1);
+        second = omega (arith, e .counted, fresh-words, within .extents);
+        fits = omega (arith, e .counted, fresh-words);
       }
 
       -- the reads of both
@@ -196,52 +127,75 @@ module _ (s : List ℕ) (at d : ℕ) (log : List ℕ) (from left : ℕ) (work ou
       ends : span from (h .so-far) log ++ span (done .taken) (reads (n .part)) log ≡ both
       ends = span-append log from (h .so-far) (reads (n .part)) (done .taken) (sym (h .taken))
 
-      -- what the join writes
-      join-is : joinCall (take (done .words) w2) (take (part .words) o2) o2 ≡ wrote (summaryOf both) o2
-      join-is =
-          ap (λ (v : List ℕ). joinCall v (take (part .words) o2) o2) still-held
-          ∙ ap (λ (v : List ℕ). joinCall held v o2) fresh-there
-          ∙ join-trace (span from (h .so-far) log) (span (done .taken) (reads (n .part)) log) o2 (subst Within (sym ends) (span-within log from (h .so-far + reads (n .part)) within))
-          ∙ ap (λ (v : List ℕ). wrote (summaryOf v) o2) ends
-
-      -- there is room for it
+      -- there is room for their summary
       both-fits : length (summaryOf both) ≤ length o2
       both-fits = omega (arith, span-words log from (h .so-far + reads (n .part)))
 
       -- over the part's words, and over those held before
-      over : fronted (summaryOf both) o2 ≡ fronted (summaryOf both) out
-      over =
-          let l = front-words (span from (h .so-far) log) (span (done .taken) (reads (n .part)) log) in
+      over : length (h .held) ≤ length (summaryOf both) → fronted (summaryOf both) o2 ≡ fronted (summaryOf both) out
+      over l =
           let m = back-words (span from (h .so-far) log) (span (done .taken) (reads (n .part)) log) in
           let z : length (summaryOf (span from (h .so-far) log ++ span (done .taken) (reads (n .part)) log)) ≡ length (summaryOf both) = ap (λ (v : List ℕ). length (summaryOf v)) ends in
           ap (fronted (summaryOf both)) (e .written)
           ∙ front-again fresh (summaryOf both) o (omega arith) (omega (arith, both-fits))
           ∙ ap (fronted (summaryOf both)) (h .written)
-          ∙ front-again held (summaryOf both) out (omega arith) (omega (arith, both-fits))
+          ∙ front-again (h .held) (summaryOf both) out l (omega (arith, both-fits))
+
+      -- what a level's join leaves: the summary of both
+      abbrev Leaves : Joined → Type 0
+      Leaves j = (j .words ≡ length (summaryOf both)) × (j .out ≡ fronted (summaryOf both) out) × (drop levelWords (j .work) ≡ drop levelWords w2)
+
+      -- it does
+      leaves : Leaves (joinHeld w2 (done .words) o2 (part .words))
+      unfolding joinedHeld fronted
+      leaves = by (h .begun)
+        where
+          by : Begun log from (h .so-far) (done .closes) (h .held) → Leaves (joinHeld w2 (done .words) o2 (part .words))
+          by (inl p) =
+              let z : done .words ≡ 0 = h .counted ∙ ap length (p .0) in
+              let k : done .taken ≡ from = omega (arith, h .taken, p .1) in
+              let m : reads (n .part) ≡ h .so-far + reads (n .part) = omega (arith, p .1) in
+              let f : fresh ≡ summaryOf both = ap (λ (i : ℕ). summaryOf (span i (reads (n .part)) log)) k ∙ ap (λ (i : ℕ). summaryOf (span from i log)) m in
+              let g : o ≡ out = h .written ∙ ap (λ (v : List ℕ). v ++ drop (length v) out) (p .0) in
+              subst Leaves (sym (none-held w2 (done .words) o2 (part .words) holdable z))
+              (e .counted ∙ ap length f, e .written ∙ ap (λ (v : List ℕ). fronted v o) f ∙ ap (fronted (summaryOf both)) g, refl)
+          by (inr p) =
+              let q : joinCall (take (done .words) w2) (take (part .words) o2) o2 ≡ wrote (summaryOf both) o2 =
+              ap (λ (v : List ℕ). joinCall v (take (part .words) o2) o2) (still-held ∙ p)
+              ∙ ap (λ (v : List ℕ). joinCall (summaryOf (span from (h .so-far) log)) v o2) fresh-there
+              ∙ join-trace (span from (h .so-far) log) (span (done .taken) (reads (n .part)) log) o2 (subst Within (sym ends) (span-within log from (h .so-far + reads (n .part)) within))
+              ∙ ap (λ (v : List ℕ). wrote (summaryOf v) o2) ends in
+              let f = wrote-front (summaryOf both) o2 both-fits in
+              let l = front-words (span from (h .so-far) log) (span (done .taken) (reads (n .part)) log) in
+              let z : length (summaryOf (span from (h .so-far) log ++ span (done .taken) (reads (n .part)) log)) ≡ length (summaryOf both) = ap (λ (v : List ℕ). length (summaryOf v)) ends in
+              subst Leaves (sym (one-held w2 (done .words) o2 (part .words) holdable (λ x. omega (arith, x, h .counted, ap length p, length-summary (span from (h .so-far) log))))) (
+                ap (λ (v : Wrote). countOf (v .answer)) q ∙ f .1,
+                ap (λ (v : Wrote). v .buffer) q ∙ f .0 ∙ over (omega (arith, ap length p)),
+                behind-kept w2 (done .words) o2 (part .words) holdable,
+              )
 
       -- what stands behind the levels
       behind : (w3 : List ℕ) → drop levelWords w3 ≡ drop levelWords w2 → drop (levelWords * left) w3 ≡ drop (levelWords * left) work
       behind w3 k =
-          let n : length (take (done .words) o) ≡ done .words = length-take-le (done .words) o (held-there .1) in
-          ap (λ (m : ℕ). drop m w3) (sym (levels-more left positive))
+          let m : length (take (done .words) o) ≡ done .words = length-take-le (done .words) o (held-there .1) in
+          ap (λ (i : ℕ). drop i w3) (sym (levels-more left positive))
           ∙ sym (drop-drop (levelWords * (left - 1)) levelWords w3)
           ∙ ap (drop (levelWords * (left - 1))) k
           ∙ drop-drop (levelWords * (left - 1)) levelWords w2
-          ∙ ap (λ (m : ℕ). drop m w2) (levels-more left positive)
+          ∙ ap (λ (i : ℕ). drop i w2) (levels-more left positive)
           ∙ level-kept left w1 y positive (omega arith) same (e .kept)
           ∙ ap (drop (levelWords * left)) copied
-          ∙ put-after w 0 (take (done .words) o) (omega (arith, n, held-there .0)) (levelWords * left) (omega (arith, n, held-there .0))
+          ∙ put-after w 0 (take (done .words) o) (omega (arith, m, held-there .0)) (levelWords * left) (omega (arith, m, held-there .0))
           ∙ h .kept
 
-      -- and are
+      -- the part is joined to those before it
       pub part-done : (words : ℕ) (w3 o3 : List ℕ)
-          → words ≡ countOf (joinCall (take (done .words) w2) (take (part .words) o2) o2 .answer)
-          → o3 ≡ joinCall (take (done .words) w2) (take (part .words) o2) o2 .buffer
-          → drop levelWords w3 ≡ drop levelWords w2
+          → words ≡ joinHeld w2 (done .words) o2 (part .words) .words
+          → w3 ≡ joinHeld w2 (done .words) o2 (part .words) .work
+          → o3 ≡ joinHeld w2 (done .words) o2 (part .words) .out
           → (r : Done) → r ≡ record { next = part .next; closes = part .closes; taken = part .taken; words = words }
           → Halfway s at d log from left work out t c rest r w3 o3
-      part-done words w3 o3 a b k r p =
-          let f = wrote-front (summaryOf both) o2 both-fits in
+      part-done words w3 o3 a k b r p =
           let done′ : Done = record { next = part .next; closes = part .closes; taken = part .taken; words = words } in
           let q : Halfway s at d log from left work out t c rest done′ w3 o3 = record {
             forward = omega (arith, h .forward, e .forward);
@@ -249,9 +203,11 @@ module _ (s : List ℕ) (at d : ℕ) (log : List ℕ) (from left : ℕ) (work ou
             pending = n .then (part .closes) (part .next) (part .taken) (e .brackets) (e .goes-on) (e .taken);
             so-far = h .so-far + reads (n .part);
             taken = omega (arith, e .taken, h .taken);
-            counted = a ∙ ap (λ (v : Wrote). countOf (v .answer)) join-is ∙ f .1;
-            written = b ∙ ap (λ (v : Wrote). v .buffer) join-is ∙ f .0 ∙ over;
-            kept = behind w3 k;
+            held = summaryOf both;
+            begun = inr refl;
+            counted = a ∙ leaves .0;
+            written = b ∙ leaves .1;
+            kept = behind w3 (ap (drop levelWords) k ∙ leaves .2);
           } in
           subst (λ (v : Done). Halfway s at d log from left work out t c rest v w3 o3) (sym p) q
 
@@ -261,6 +217,7 @@ module _ (s : List ℕ) (at d : ℕ) (log : List ℕ) (from left : ℕ) (work ou
     join-done z r p =
         let l = no-part s (suc d) c rest (from + reads t) (left - 1) (done .next) (done .taken) (done .closes) (h .pending) z in
         let m : h .so-far ≡ reads t = omega (arith, l .2, h .taken) in
+        let f : h .held ≡ summaryOf (span from (reads t) log) = by (h .begun) ∙ ap (λ (v : ℕ). summaryOf (span from v log)) m in
         let done′ : Done = record { next = done .next; closes = done .closes - 1; taken = done .taken; words = done .words } in
         let q : Evaluated s at log from left work out t c rest done′ w o = record {
           forward = h .forward;
@@ -268,86 +225,15 @@ module _ (s : List ℕ) (at d : ℕ) (log : List ℕ) (from left : ℕ) (work ou
           goes-on = l .1;
           brackets = omega (arith, l .0);
           taken = l .2;
-          counted = h .counted ∙ ap (λ (v : ℕ). length (summaryOf (span from v log))) m;
-          written = h .written ∙ ap (λ (v : ℕ). fronted (summaryOf (span from v log)) out) m;
+          counted = h .counted ∙ ap length f;
+          written = h .written ∙ ap (λ (v : List ℕ). fronted v out) f;
           kept = h .kept;
         } in
         subst (λ (v : Done). Evaluated s at log from left work out t c rest v w o) (sym p) q
-
-module _ (s : List ℕ) (at d : ℕ) (log : List ℕ) (from left : ℕ) (work out : List ℕ) (t : Plan) (c : ℕ) (rest : List ℕ) (done : Done) (w o : List ℕ)
-    (h : Halfway s at d log from left work out t c rest done w o) (room : 2 + 3 * length (firsts log) ≤ length out) where
-  -- a join is halfway from there on
-  pub restart : Halfway s at d log from left w o t c rest done w o
-  restart =
-      let x : List ℕ = summaryOf (span from (h .so-far) log) in
-      let f : fronted x (fronted x out) ≡ fronted x out = front-again x x out (omega arith) (omega (arith, span-words log from (h .so-far))) in
-      record {
-        forward = h .forward;
-        inside = h .inside;
-        pending = h .pending;
-        so-far = h .so-far;
-        taken = h .taken;
-        counted = h .counted;
-        written = h .written ∙ sym f ∙ ap (fronted x) (sym (h .written));
-        kept = refl;
-      }
-
-  -- no more reads are taken than the plan has
-  so-far-least : Pending s (suc d) c rest (from + reads t) (left - 1) (done .closes) (done .next) (done .taken) → h .so-far ≤ reads t
-  so-far-least (inl p) = omega (arith, p .5, h .taken)
-  so-far-least (inr p) = omega (arith, p .2, h .taken)
-
-  -- what is evaluated from there on is evaluated
-  pub resume : (r : Done) (w′ o′ : List ℕ) → Evaluated s at log from left w o t c rest r w′ o′ → Evaluated s at log from left work out t c rest r w′ o′
-  resume r w′ o′ e =
-      let x : List ℕ = summaryOf (span from (h .so-far) log) in
-      let y : List ℕ = summaryOf (span from (reads t) log) in
-      let f : fronted y (fronted x out) ≡ fronted y out = front-again x y out (grown-words log from (h .so-far) (reads t) (so-far-least (h .pending))) (omega (arith, span-words log from (reads t))) in
-      record {
-        forward = e .forward;
-        inside = e .inside;
-        goes-on = e .goes-on;
-        brackets = e .brackets;
-        taken = e .taken;
-        counted = e .counted;
-        written = e .written ∙ ap (fronted y) (h .written) ∙ f;
-        kept = e .kept ∙ h .kept;
-      }
-
--- a join's first part is ready
-abbrev pub ready-first : (s : List ℕ) (next d : ℕ) (log : List ℕ) (from left : ℕ) (t : Plan) (c : ℕ) (rest : List ℕ) → (o : Opened s next d t c rest) → depth t ≤ left → from + reads t ≤ length log
-    → Ready s next (d + 1) log from (left - 1)
-ready-first s next d log from left t c rest o deep covered = record {
-  plan = o .first;
-  closes = 0;
-  rest = partsText (suc d) (o .others) ++ (close c ++ (10 ∷ rest));
-  stands = subst (λ (x : ℕ). Stands (drop next s) x (o .first) 0 (partsText (suc d) (o .others) ++ (close c ++ (10 ∷ rest)))) (sym (add-one d)) (o .stands);
-  deep = omega (arith, o .deepens);
-  covered = omega (arith, o .covers);
-}
-
--- so is the next of the others
-abbrev pub ready-next : (s : List ℕ) (next d : ℕ) (log : List ℕ) (taken left c : ℕ) (rest : List ℕ) (end : ℕ) → (n : NextPart s (suc d) c rest end (left - 1) next taken) → end ≤ length log
-    → Ready s next (d + 1) log taken (left - 1)
-ready-next s next d log taken left c rest end n covered = record {
-  plan = n .part;
-  closes = n .closes;
-  rest = n .after;
-  stands = subst (λ (x : ℕ). Stands (drop next s) x (n .part) (n .closes) (n .after)) (sym (add-one d)) (n .stands);
-  deep = n .shallow;
-  covered = omega (arith, n .covered);
-}
-
--- the words lent for a level suffice for those below
-pub below-roomy : (s : List ℕ) (at d : ℕ) (log work out : List ℕ) (left : ℕ) → Roomy s at d log work out left → 0 < left → (next : ℕ) → next ≤ length s → (w o : List ℕ) → length w ≡ length work → length o ≡ length out
-    → Roomy s next (d + 1) log (midOf levelWords (length w - levelWords) w) o (left - 1)
-below-roomy s at d log work out left r p next h w o long wide = record {
-  inside = h;
-  joins = omega (arith, r .joins);
-  within = r .within;
-  levels = omega (arith, below-long w left p (omega (arith, r .levels)), r .levels);
-  room = omega (arith, r .room);
-}
+      where
+        by : Begun log from (h .so-far) (done .closes) (h .held) → h .held ≡ summaryOf (span from (h .so-far) log)
+        by (inl b) = absurd (z (b .2))
+        by (inr b) = b
 
 -- a seg is evaluated
 pub seg-done : (s : List ℕ) (at next : ℕ) (log : List ℕ) (from left : ℕ) (work out : List ℕ) (t : Plan) (c : ℕ) (rest : List ℕ) → Within log → 2 + 3 * length (firsts log) ≤ length out

@@ -1,6 +1,2 @@
-mod Examples
-mod Levels
-mod Standing
+mod Reading
 mod Evaluating
-pub mod Carrying
-pub mod Groupings

@@ -1,17 +1,11 @@
 // Carrying a plan out: a seg is summarized, a join's parts are joined from the inside out, left to right.
+use plan_joins::LEVEL;
 use plan_lines::Line;
 use summary::Written;
 ghost use mathlib.Core.Path.{_≡_};
-ghost use lib.ListN.{take, drop};
-ghost use Rattle.summary_calls.specs.Calls.{joinCall};
-ghost use Rattle.plan.specs.Calls.{levelWords};
-ghost use Rattle.plan.specs.Evaluation.{countOf, Ready, Roomy, Evaluates, Holdable};
-
-// The words of the largest summary.
-const SUMMARY_WORDS: usize = 2 + 3 * reuse::MAX_EXTENTS;
-
-// The work words of one level of joins: two summaries.
-pub const LEVEL: usize = 2 * SUMMARY_WORDS;
+ghost use Rattle.plan_calls.specs.Calls.{countOf};
+ghost use Rattle.plan_calls.specs.Standing.{Ready, Roomy};
+ghost use Rattle.plan.specs.Evaluation.{Evaluates};
 
 // How far evaluation has come: the position past the form, the brackets after its own, the reads taken, and the words of the summary.
 pub struct Done {
@@ -31,30 +25,6 @@ fn count_of(answer: Written) -> usize
     }
 }
 
-// The summary in `out` is joined to the one before it, which the first half of the level's words holds.
-fn join_held(work: &mut [u32], held: usize, out: &mut [u32], words: usize) -> usize
-    requires { ⌜ Holdable (now work) (now out) held words ⌝ }
-    ensures joined { λ r. ⌜ (r ≡ countOf (joinCall (take held (now (work .entry))) (take words (now (out .entry))) (now (out .entry)) .answer)) × (now (out .exit) ≡ joinCall (take held (now (work .entry))) (take words (now (out .entry))) (now (out .entry)) .buffer) ⌝ }
-    ensures kept { λ r. ⌜ drop levelWords (now (work .exit)) ≡ drop levelWords (now (work .entry)) ⌝ }
-{
-    reuse_copies::put(work, SUMMARY_WORDS, &out[..words]);
-    let end = SUMMARY_WORDS + words;
-    let both = &work[..];
-    count_of(summary::join(&both[..held], &both[SUMMARY_WORDS..end], out))
-}
-
-// How far evaluation has come, by its four numbers.
-fn past(next: usize, closes: usize, taken: usize, words: usize) -> Done
-    ensures { λ r. ⌜ r ≡ record { next = next; closes = closes; taken = taken; words = words } ⌝ }
-{
-    Done {
-        next,
-        closes,
-        taken,
-        words,
-    }
-}
-
 // The plan at `at` under `under` joins, on the log's reads from `from` on, with `left` levels of work words.
 pub fn evaluate(
     s: &[u8],
@@ -69,32 +39,41 @@ pub fn evaluate(
     requires { ⌜ Ready (now s) at under (now log) from left × Roomy (now s) at under (now log) (now work) (now out) left ⌝ }
     ensures { λ r. ⌜ Evaluates (now (s .entry)) at under (now (log .entry)) from left (now (work .entry)) (now (out .entry)) r (now (work .exit)) (now (out .exit)) ⌝ }
 {
+    let mut done = Done {
+        next: at,
+        closes: 0,
+        taken: from,
+        words: 0,
+    };
     let l = plan_lines::line_at(s, at, under);
     match l {
-        Line::Bad => past(at, 0, from, 0),
+        Line::Bad => done,
         Line::Seg {
             reads,
             closes,
             next,
         } => {
             let end = from + reads as usize;
-            let words = count_of(summary::of_trace(&log[from..end], out));
-            past(next, closes, end, words)
+            done.next = next;
+            done.closes = closes;
+            done.taken = end;
+            done.words = count_of(summary::of_trace(&log[from..end], out));
+            done
         }
         Line::Join { next } => {
             let inner = under + 1;
             let below = left - 1;
-            let mut done = evaluate(s, next, inner, log, from, below, &mut work[LEVEL..], out);
+            done.next = next;
             while done.closes == 0 {
                 let held = done.words;
                 let here = done.next;
                 let taken = done.taken;
                 reuse_copies::put(work, 0, &out[..held]);
-                let part = evaluate(s, here, inner, log, taken, below, &mut work[LEVEL..], out);
-                let words = join_held(work, held, out, part.words);
-                done = past(part.next, part.closes, part.taken, words);
+                done = evaluate(s, here, inner, log, taken, below, &mut work[LEVEL..], out);
+                done.words = plan_joins::join_held(work, held, out, done.words);
             }
-            past(done.next, done.closes - 1, done.taken, done.words)
+            done.closes = done.closes - 1;
+            done
         }
     }
 }

@@ -6,7 +6,7 @@ pub use plan_reader::PlanRead;
 pub use plan_reader::read;
 use summary::Written;
 ghost use mathlib.Core.Path.{_≡_};
-ghost use Rattle.plan.specs.Calls.{runCall, Accepted};
+ghost use Rattle.plan_calls.specs.Calls.{runCall, Accepted};
 
 // A plan text carried out on a log: the words of the log's summary at the front of `out`, its parts joined as the plan says.
 pub fn run(text: &[u8], log: &[u32], work: &mut [u32], out: &mut [u32]) -> Written
@@ -40,7 +40,7 @@ fn carry_out(text: &[u8], log: &[u32], work: &mut [u32], out: &mut [u32], depth:
     if reuse::MAX_EXTENTS < extents {
         return Written::Refused(9);
     }
-    let levels = evaluation::LEVEL * depth;
+    let levels = plan_joins::LEVEL * depth;
     if work.len() < levels {
         return Written::Refused(6);
     }

@@ -13,8 +13,8 @@ use Rattle.reuse.proofs.Words.{length-summary}
 use Rattle.texts.specs.Lines.{got}
 use Rattle.texts.specs.Plans.{Plan, reads}
 use Rattle.texts.specs.PlanTexts.{planOf}
-use Rattle.plan.specs.Calls.{workWords, fronted, carriedOut, runCall}
-use Rattle.plan.proofs.Carrying.{by-room}
+use Rattle.plan_calls.specs.Calls.{workWords, fronted, carriedOut, runCall}
+use Rattle.plan_calls.proofs.Carrying.{by-room}
 use Rattle.whole.specs.Runs.{planned, handed, stopped, roomFor}
 
 module _ (t : List ℕ) (p : Plan) (work out : List ℕ) where

@@ -19,7 +19,7 @@ use Rattle.session_summary.specs.Summaries.{summaryCall}
 use Rattle.texts.specs.Lines.{got}
 use Rattle.texts.specs.Plans.{Plan, reads as planReads}
 use Rattle.texts.specs.PlanTexts.{planOf}
-use Rattle.plan.specs.Calls.{workWords, runCall}
+use Rattle.plan_calls.specs.Calls.{workWords, runCall}
 use Rattle.whole.specs.Runs.{planned, sessionAfter, answersOf, accepted, handed, stopped, outcome, Grouping, parts, logOf, grouped, roomFor, roomy}
 use Rattle.whole.specs.Cuttings.{Cutting, cutParts, Follows, cutDistances, cutRoomy}
 

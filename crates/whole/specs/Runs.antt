@@ -8,7 +8,7 @@ use Rattle.reuse.specs.Lists.{firsts}
 use Rattle.summary_calls.specs.declared.Written.{Written}
 use Rattle.summary_calls.specs.declared.Written.the-variants.{Words, Refused}
 use Rattle.summary_calls.specs.Calls.{Wrote, joinCall}
-use Rattle.plan.specs.Calls.{Ran}
+use Rattle.plan_calls.specs.Calls.{Ran}
 use Rattle.session.specs.declared.Session.{Session}
 use Rattle.session.specs.declared.Answer.{Answer}
 use Rattle.session.specs.declared.Answer.the-variants.{Cold, Distance, Refused as NoRead}

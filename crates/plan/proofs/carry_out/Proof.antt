@@ -1,6 +1,6 @@
 -- `plan::carry_out` meets its contract.
 use mathlib.Core.Path.{_≡_, sym}
-use Prim.Native.Nat.{_*_, _≤_}
+use Prim.Native.Nat.{_+_, _*_, _≤_}
 use native.Mathlib.Omega.{arith}
 use lib.ListN.{length}
 use lib.Seq.{length-take-le}
@@ -8,7 +8,8 @@ use Rattle.reuse.specs.Traces.{Within}
 use Rattle.reuse.specs.Lists.{firsts}
 use Rattle.reuse.proofs.Traces.{extents-exact, extents-within, extents-over}
 use Rattle.texts.proofs.PlanSound.{sound}
-use Rattle.plan.proofs.Carrying.{many-reads, many-extents, work-short, out-short, ready, roomy, cleared-front, run-done}
+use Rattle.plan_calls.specs.Standing.{Ready}
+use Rattle.plan_calls.proofs.Carrying.{many-reads, many-extents, work-short, out-short, ready, roomy, cleared-front, run-done}
 use borrow.Author.Needs.{needs}
 use Rattle.plan.proofs.carry_out.Statement.{statement}
 use Rattle.plan.proofs.carry_out.Tie as tie
@@ -24,6 +25,20 @@ counted c = extents-exact _ _ (c .before .extents-of .ensures) (within c .extent
 -- the plan is no deeper than the limit
 shallow : (c : tie.Else2) → c .before .before .before .before .before .before .before .args .depth ≤ 8
 shallow c = let a = c .before .before .before .before .before .before .before in let s = sound _ _ (a .pre .read) in omega (arith, s .1 .deep, a .pre .deepens)
+
+-- the work words suffice for its levels
+levels : (c : tie.Else4) → 1540 * c .before .before .before .before .before .before .before .before .before .args .depth ≤ length (c .before .before .before .before .before .before .before .before .before .args .work .now)
+levels c = omega arith
+
+-- the output suffices for the log's summary
+room : (c : tie.Else4) → 2 + 3 * length (firsts (c .before .before .before .before .before .before .before .before .before .args .log .now)) ≤ length (c .before .before .before .before .before .before .before .before .before .args .out .now)
+room c = omega (arith, counted (c .before .before))
+
+-- the plan is ready
+abbrev there : (c : tie.Else4) → let a = c .before .before .before .before .before .before .before .before .before .args in Ready (a .text .now) 0 0 (a .log .now) 0 (a .depth)
+there c =
+    let a = c .before .before .before .before .before .before .before .before .before in
+    ready (a .args .text .now) (a .args .log .now) (a .args .work .now) (a .args .out .now) (a .pre .plan) (a .pre .read) (a .pre .covers) (within (c .before .before)) (a .args .depth) (a .pre .deepens) (levels c) (room c)
 
 -- the plan's levels stand in the words that come back
 levels-there : (c : tie.After-slice-known4) → 1540 * c .before .before .before .before .before .before .before .before .before .before .before .before .before .before .before .before .args .depth ≤ length (c .before .before .before .before .evaluate .last .1 .1 .1 .1 .1 .1 .0)
@@ -58,8 +73,9 @@ returns-4 c = let a = c .before .before .before .before .before .before .before 
 
 evaluate-requires : tie.Need-evaluate-requires
 evaluate-requires c κs =
-    let a = c .before .before .before .before .before .before .before .before .before .before .before in
-    (ready (a .args .text .now) (a .args .log .now) (a .args .work .now) (a .args .out .now) (a .pre .plan) (a .pre .read) (a .pre .covers) (within (c .before .before .before .before)) (a .args .depth) (a .pre .deepens) (omega arith) (omega (arith, counted (c .before .before .before .before))), roomy (a .args .text .now) (a .args .log .now) (a .args .work .now) (a .args .out .now) (a .pre .plan) (a .pre .read) (a .pre .covers) (within (c .before .before .before .before)) (a .args .depth) (a .pre .deepens) (omega arith) (omega (arith, counted (c .before .before .before .before))))
+    let k = c .before .before in
+    let a = k .before .before .before .before .before .before .before .before .before in
+    (there k, roomy (a .args .text .now) (a .args .log .now) (a .args .work .now) (a .args .out .now) (a .pre .plan) (a .pre .read) (a .pre .covers) (within (k .before .before)) (a .args .depth) (a .pre .deepens) (levels k) (room k))
 
 slice-relend-prefix-clear : tie.Need-slice-relend-prefix-clear
 slice-relend-prefix-clear c = search needs
@@ -78,11 +94,12 @@ same-length-2 c = search needs
 
 returns-5 : tie.Need-returns-5
 returns-5 c =
-    let a = c .before .before .before .before .before .before .before .before .before .before .before .before .before .before .before .before .before .before .before .before in
+    let k = c .before .before .before .before .before .before .before .before .before .before .before in
+    let a = k .before .before .before .before .before .before .before .before .before in
     let e = c .before .before .before .before .before .before .before .before .evaluate in
-    run-done (a .args .text .now) (a .args .log .now) (a .args .work .now) (a .args .out .now) (a .pre .plan) (a .pre .read) (a .pre .covers) (within (c .before .before .before .before .before .before .before .before .before .before .before .before .before)) (a .args .depth) (a .pre .deepens) (omega arith) (omega (arith, counted (c .before .before .before .before .before .before .before .before .before .before .before .before .before)))
-    (e .result) (e .last .1 .1 .1 .1 .1 .1 .0) (e .last .1 .1 .1 .1 .1 .1 .1 .0) _
-    (e .ensures (ready (a .args .text .now) (a .args .log .now) (a .args .work .now) (a .args .out .now) (a .pre .plan) (a .pre .read) (a .pre .covers) (within (c .before .before .before .before .before .before .before .before .before .before .before .before .before)) (a .args .depth) (a .pre .deepens) (omega arith) (omega (arith, counted (c .before .before .before .before .before .before .before .before .before .before .before .before .before))))) (cleared-front _ _ _ (levels-there (c .before .before .before .before)) (c .before .before .clear .ensures))
+    let d = e .ensures (there k) in
+    run-done (a .args .text .now) (a .args .log .now) (a .args .work .now) (a .args .out .now) (a .pre .plan) (a .pre .read) (a .pre .covers) (within (k .before .before)) (a .args .depth) (a .pre .deepens) (levels k) (room k)
+    (e .result .words) (e .last .1 .1 .1 .1 .1 .1 .0) (e .last .1 .1 .1 .1 .1 .1 .1 .0) _ (d .counted) (d .written) (d .kept) (cleared-front _ _ _ (levels-there (c .before .before .before .before)) (c .before .before .clear .ensures))
 
 pub carry-out-spec : {M : Type 1} → statement M
 carry-out-spec =

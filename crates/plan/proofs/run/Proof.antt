@@ -4,7 +4,8 @@ use native.Mathlib.Omega.{arith}
 use Rattle.texts.specs.Lines.{got}
 use Rattle.texts.specs.Plans.{Plan, reads, depth}
 use Rattle.texts.specs.PlanTexts.{planOf}
-use Rattle.plan.proofs.Carrying.{text-refused, text-read, segs-differ}
+use Rattle.plan_calls.proofs.Carrying.{segs-differ}
+use Rattle.plan.proofs.Reading.{text-refused, text-read}
 use borrow.Author.Needs.{needs}
 use Rattle.plan.proofs.run.Statement.{statement}
 use Rattle.plan.proofs.run.Tie as tie

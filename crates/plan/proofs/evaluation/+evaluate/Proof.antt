@@ -1,22 +1,21 @@
 -- `plan::evaluation::evaluate` meets its contract. It calls itself with the depth left falling.
 use mathlib.Core.Path.{_≡_, refl, sym, ap, _∙_}
-use Prim.Native.Nat.{ℕ, suc, _<_, _+_, _-_, _*_, _≤_}
+use Prim.Native.Nat.{ℕ, suc, _<_, _+_, _-_, _≤_}
 use native.Mathlib.Omega.{arith}
-use mathlib.Core.List.{List}
 use lib.ListN.{length, take, drop}
 use lib.Seq.{length-take-le}
-use borrow.Rule.Slice.PartMut.{putMid, midOf}
-use Rattle.reuse.specs.Lists.{firsts}
+use borrow.Rule.Slice.PartMut.{midOf}
 use Rattle.reuse_copies.proofs.Puts.{placed-fits}
 use Rattle.summary_calls.specs.Calls.{Wrote, traceCall}
 use Rattle.texts.specs.Plans.{reads}
 use Rattle.texts.specs.PlanPlaces.{segAt, joinAt, lineAt}
 use Rattle.plan_lines.proofs.Lines.{seg-line, join-line, no-line}
-use Rattle.plan.specs.Evaluation.{countOf, span, Ready, Evaluated}
-use Rattle.plan.specs.declared.evaluation.Done.{Done}
-use Rattle.plan.proofs.Evaluating.{Halfway, ready-first, ready-next, below-roomy, below-long, first-done, held-there, holdable, part-done, join-done, restart, resume, seg-done}
-use Rattle.plan.proofs.Levels.{back-length}
-use Rattle.plan.proofs.Standing.{Opened, NextPart, some-line, seg-there, join-there, next-part}
+use Rattle.plan_calls.specs.Calls.{countOf}
+use Rattle.plan_calls.specs.Standing.{span, Ready}
+use Rattle.plan_calls.proofs.Levels.{back-length, below-long}
+use Rattle.plan_calls.proofs.Standing.{Opened, NextPart, some-line, seg-there, join-there, next-part, ready-next, below-roomy}
+use Rattle.plan.specs.Evaluation.{Evaluated}
+use Rattle.plan.proofs.Evaluating.{Halfway, begin, held-there, part-done, join-done, seg-done}
 use borrow.Author.Needs.{needs}
 use borrow.Fn.Kinds.{In}
 use borrow.Fn.PlainCycle.{Measures, is, falls, and}
@@ -24,11 +23,10 @@ use Rattle.plan.proofs.evaluation.evaluate.Reads as evaluate
 use Rattle.plan.proofs.evaluation.evaluate.Kinds as evaluate-kinds
 use Rattle.plan.proofs.evaluation.+evaluate.Lts-evaluate as evaluate-lts
 use Rattle.plan.proofs.evaluation.count_of.Reads as count-of-reads
-use Rattle.plan.proofs.evaluation.join_held.Reads as join-held-reads
-use Rattle.plan.proofs.evaluation.past.Reads as past-reads
-use Rattle.summary_trace.proofs.of_trace.Reads as of-trace-reads
+use Rattle.plan_joins.proofs.join_held.Reads as join-held-reads
 use Rattle.plan_lines.proofs.line_at.Reads as line-at-reads
 use Rattle.reuse_copies.proofs.put.Reads as put-reads
+use Rattle.summary_trace.proofs.of_trace.Reads as of-trace-reads
 use Rattle.plan.proofs.evaluation.+evaluate.{statement}
 use Rattle.plan.proofs.evaluation.+evaluate.Tie.{close}
 
@@ -46,28 +44,26 @@ abbrev evaluate-claims : ℕ → evaluate-lts.Claims
 evaluate-claims t = (
   line-at-reads.Asked,
   line-at-reads.Learnt,
-  past-reads.Asked,
-  past-reads.Learnt,
   of-trace-reads.Asked,
   of-trace-reads.Learnt,
   count-of-reads.Asked,
   count-of-reads.Learnt,
-  evaluate-below t,
-  evaluate.Post,
   put-reads.Asked,
   put-reads.Learnt,
+  evaluate-below t,
+  evaluate.Post,
   join-held-reads.Asked,
   join-held-reads.Learnt,
 )
 
 abbrev evaluate-Inv-loop : evaluate-lts.InvT-loop
-evaluate-Inv-loop s at under log from left work₀ out₀ next inner below done₀ work out done =
+evaluate-Inv-loop s at under log from left work₀ out₀ done₀ next inner below work out done =
     (length work ≡ length work₀)
     × (length out ≡ length out₀)
     × ((g : Ready s at under log from left) → Halfway s at under log from left work₀ out₀ (g .plan) (g .closes) (g .rest) done work out)
 
 abbrev evaluate-μ-loop : evaluate-lts.MeasureT-loop
-evaluate-μ-loop s at under log from left work₀ out₀ next inner below done₀ work out done = length s - done .next
+evaluate-μ-loop s at under log from left work₀ out₀ done₀ next inner below work out done = length s - done .next
 
 -- the seg that was found
 segged : (t : ℕ) (c : evaluate-lts.After-l (evaluate-claims t) (evaluate-at t) evaluate.Post evaluate-Inv-loop evaluate-μ-loop) →
@@ -115,114 +111,59 @@ opened t c r =
 positive : (t : ℕ) (c : evaluate-lts.After-l2 (evaluate-claims t) (evaluate-at t) evaluate.Post evaluate-Inv-loop evaluate-μ-loop) → 0 < c .before .before .before .before .before .before .before .args .left
 positive t c = let r = c .before .before .before .before .before .before .before .pre .1 .0 in omega (arith, opened t c r .deepens, r .deep)
 
--- the words lent below come back as many
-below-back : (t : ℕ) (c : evaluate-lts.After-slice-known5 (evaluate-claims t) (evaluate-at t) evaluate.Post evaluate-Inv-loop evaluate-μ-loop) → length (c .before .before .before .before .evaluate .last .1 .1 .1 .1 .1 .1 .0) ≡ length (c .before .before .before .before .before .before .before .before .before .before .before .before .before .before .before .args .work .now) - 1540
-below-back t c =
-    let a = c .before .before .before .before .before .before .before .before .before .before .before .before .before .before .before in
-    c .before .before .before .before .evaluate .kept .1 .1 .1 .1 .1 .1 .0 ∙ below-long (a .args .work .now) (a .args .left) (positive t (c .before .before .before .before .before .before .before .before)) (a .pre .1 .1 .levels)
-
--- the join after its first part
-first-is : (t : ℕ) (c : evaluate-lts.After-slice-known5 (evaluate-claims t) (evaluate-at t) evaluate.Post evaluate-Inv-loop evaluate-μ-loop) →
-    let a = c .before .before .before .before .before .before .before .before .before .before .before .before .before .before .before .args in
-    let e = c .before .before .before .before .evaluate in
-    (r : Ready (a .s .now) (a .at) (a .under) (a .log .now) (a .from) (a .left))
-    → Halfway (a .s .now) (a .at) (a .under) (a .log .now) (a .from) (a .left) (a .work .now) (a .out .now) (r .plan) (r .closes) (r .rest) (e .result) (putMid 1540 (length (a .work .now) - 1540) (a .work .now) (e .last .1 .1 .1 .1 .1 .1 .0)) (e .last .1 .1 .1 .1 .1 .1 .1 .0)
-first-is t c r =
-    let a = c .before .before .before .before .before .before .before .before .before .before .before .before .before .before .before in
-    let l = c .before .before .before .before .before .before .before .before in
-    let e = c .before .before .before .before .evaluate in
-    let o = opened t l r in
-    first-done (a .args .s .now) (a .args .at) (a .args .under) (a .args .log .now) (a .args .from) (a .args .left) (a .args .work .now) (a .args .out .now) (r .plan) (r .closes) (r .rest) (positive t l) (a .pre .1 .1 .levels)
-    (l .l2 .given .0 .0) (joined t l .1) o (r .deep) (e .result) (e .last .1 .1 .1 .1 .1 .1 .0) (e .last .1 .1 .1 .1 .1 .1 .1 .0) (below-back t c)
-    (e .ensures (ready-first (a .args .s .now) (l .l2 .given .0 .0) (a .args .under) (a .args .log .now) (a .args .from) (a .args .left) (r .plan) (r .closes) (r .rest) o (r .deep) (r .covered)))
-
--- the work words when the loop begins
-abbrev work-first : (t : ℕ) (c : evaluate-lts.After-slice-known5 (evaluate-claims t) (evaluate-at t) evaluate.Post evaluate-Inv-loop evaluate-μ-loop) → List ℕ
-work-first t c = let a = c .before .before .before .before .before .before .before .before .before .before .before .before .before .before .before .args in putMid 1540 (length (a .work .now) - 1540) (a .work .now) (c .before .before .before .before .evaluate .last .1 .1 .1 .1 .1 .1 .0)
-
--- the output then
-abbrev out-first : (t : ℕ) (c : evaluate-lts.After-slice-known5 (evaluate-claims t) (evaluate-at t) evaluate.Post evaluate-Inv-loop evaluate-μ-loop) → List ℕ
-out-first t c = c .before .before .before .before .evaluate .last .1 .1 .1 .1 .1 .1 .1 .0
-
--- both are as long as they were lent
-work-long : (t : ℕ) (c : evaluate-lts.After-slice-known5 (evaluate-claims t) (evaluate-at t) evaluate.Post evaluate-Inv-loop evaluate-μ-loop) → length (work-first t c) ≡ length (c .before .before .before .before .before .before .before .before .before .before .before .before .before .before .before .args .work .now)
-work-long t c =
-    let a = c .before .before .before .before .before .before .before .before .before .before .before .before .before .before .before in
-    back-length 1540 (a .args .work .now) (c .before .before .before .before .evaluate .last .1 .1 .1 .1 .1 .1 .0) (omega (arith, positive t (c .before .before .before .before .before .before .before .before), a .pre .1 .1 .levels)) (below-back t c)
-
-out-wide : (t : ℕ) (c : evaluate-lts.After-slice-known5 (evaluate-claims t) (evaluate-at t) evaluate.Post evaluate-Inv-loop evaluate-μ-loop) → length (out-first t c) ≡ length (c .before .before .before .before .before .before .before .before .before .before .before .before .before .before .before .args .out .now)
-out-wide t c = c .before .before .before .before .evaluate .kept .1 .1 .1 .1 .1 .1 .1 .0
-
--- the words for the levels left
-levels-first : (t : ℕ) (c : evaluate-lts.After-slice-known5 (evaluate-claims t) (evaluate-at t) evaluate.Post evaluate-Inv-loop evaluate-μ-loop) → 1540 * c .before .before .before .before .before .before .before .before .before .before .before .before .before .before .before .args .left ≤ length (work-first t c)
-levels-first t c = omega (arith, work-long t c, c .before .before .before .before .before .before .before .before .before .before .before .before .before .before .before .pre .1 .1 .levels)
-
--- the words for the log's summary
-room-first : (t : ℕ) (c : evaluate-lts.After-slice-known5 (evaluate-claims t) (evaluate-at t) evaluate.Post evaluate-Inv-loop evaluate-μ-loop) → 2 + 3 * length (firsts (c .before .before .before .before .before .before .before .before .before .before .before .before .before .before .before .args .log .now)) ≤ length (out-first t c)
-room-first t c = omega (arith, out-wide t c, c .before .before .before .before .before .before .before .before .before .before .before .before .before .before .before .pre .1 .1 .room)
-
--- the words held at the front of the output, before another part
-held-is : (t : ℕ) (c : evaluate-lts.After-put-arg (evaluate-claims t) (evaluate-at t) evaluate.Post evaluate-Inv-loop evaluate-μ-loop) →
-    let l = c .before .before .before .loop in
-    (l .done .words ≤ 770) × (l .done .words ≤ length (l .out))
+-- the words held at the front of the output
+held-is : (t : ℕ) (c : evaluate-lts.At-loop (evaluate-claims t) (evaluate-at t) evaluate.Post evaluate-Inv-loop evaluate-μ-loop) → (c .loop .done .words ≤ 770) × (c .loop .done .words ≤ length (c .loop .out))
 held-is t c =
-    let a = c .before .before .before .before .before .before .before .before .before .before .before .before .before .before .before .before .before .before .before in
-    let k = c .before .before .before .before in
-    let l = c .before .before .before .loop in
+    let a = c .before .before .before .before .before .before .before .before .before in
+    let l = c .loop in
     let r = a .pre .1 .0 in
-    let h = held-there (a .args .s .now) (a .args .at) (a .args .under) (a .args .log .now) (a .args .from) (a .args .left) (work-first t k) (out-first t k) (r .plan) (r .closes) (r .rest)
-    (positive t (k .before .before .before .before .before .before .before .before)) (levels-first t k) (l .done) (l .work) (l .out) (l .inv .2 r) (a .pre .1 .1 .within) (l .inv .0) (l .inv .1) (room-first t k) in
+    let h = held-there (a .args .s .now) (a .args .at) (a .args .under) (a .args .log .now) (a .args .from) (a .args .left) (a .args .work .now) (a .args .out .now) (r .plan) (r .closes) (r .rest) (positive t (c .before .before)) (a .pre .1 .1 .levels) (a .pre .1 .1 .within) (a .pre .1 .1 .room) (l .done) (l .work) (l .out) (l .inv .2 r) (l .inv .0) (l .inv .1) in
     (h .0, h .1)
 
--- they fit the words of this level
-held-fits : (t : ℕ) (c : evaluate-lts.After-put-arg (evaluate-claims t) (evaluate-at t) evaluate.Post evaluate-Inv-loop evaluate-μ-loop) →
-    let l = c .before .before .before .loop in
-    0 + length (take (l .done .words) (l .out)) ≤ length (l .work)
-held-fits t c =
-    let k = c .before .before .before .before in
-    let l = c .before .before .before .loop in
-    omega (arith, length-take-le (l .done .words) (l .out) (held-is t c .1), held-is t c .0, l .inv .0, levels-first t k, positive t (k .before .before .before .before .before .before .before .before))
+-- this level's words
+level-there : (t : ℕ) (c : evaluate-lts.At-loop (evaluate-claims t) (evaluate-at t) evaluate.Post evaluate-Inv-loop evaluate-μ-loop) → 1540 ≤ length (c .loop .work)
+level-there t c = omega (arith, c .loop .inv .0, c .before .before .before .before .before .before .before .before .before .pre .1 .1 .levels, positive t (c .before .before))
+
+-- the words held fit them
+held-fits : (t : ℕ) (c : evaluate-lts.At-loop (evaluate-claims t) (evaluate-at t) evaluate.Post evaluate-Inv-loop evaluate-μ-loop) → 0 + length (take (c .loop .done .words) (c .loop .out)) ≤ length (c .loop .work)
+held-fits t c = omega (arith, length-take-le (c .loop .done .words) (c .loop .out) (held-is t c .1), held-is t c .0, level-there t c)
 
 -- the next part
 abbrev next-is : (t : ℕ) (c : evaluate-lts.After-put-arg (evaluate-claims t) (evaluate-at t) evaluate.Post evaluate-Inv-loop evaluate-μ-loop) →
-    let a = c .before .before .before .before .before .before .before .before .before .before .before .before .before .before .before .before .before .before .before .args in
+    let a = c .before .before .before .before .before .before .before .before .before .before .before .before .args in
     let l = c .before .before .before .loop in
     (r : Ready (a .s .now) (a .at) (a .under) (a .log .now) (a .from) (a .left))
     → NextPart (a .s .now) (suc (a .under)) (r .closes) (r .rest) (a .from + reads (r .plan)) (a .left - 1) (l .done .next) (l .done .taken)
 next-is t c r =
-    let a = c .before .before .before .before .before .before .before .before .before .before .before .before .before .before .before .before .before .before .before .args in
+    let a = c .before .before .before .before .before .before .before .before .before .before .before .before .args in
     let l = c .before .before .before .loop in
     next-part (a .s .now) (suc (a .under)) (r .closes) (r .rest) (a .from + reads (r .plan)) (a .left - 1) (l .done .next) (l .done .taken) (l .done .closes) (l .inv .2 r .pending) (let z : l .done .closes ≡ 0 = omega arith in z)
 
 -- the part that was evaluated
 part-is : (t : ℕ) (c : evaluate-lts.After-join-held-arg2 (evaluate-claims t) (evaluate-at t) evaluate.Post evaluate-Inv-loop evaluate-μ-loop) →
-    let a = c .before .before .before .before .before .before .before .before .before .before .before .before .before .before .before .before .before .before .before .before .before .before .before .before .before .before .before .before .before .before .before .before .args in
+    let a = c .before .before .before .before .before .before .before .before .before .before .before .before .before .before .before .before .before .before .before .before .before .before .before .before .before .args in
     let l = c .before .before .before .before .before .before .before .before .before .before .before .before .before .before .before .before .loop in
     let w = c .before .before .before .before .before .before .before .before .before .before .before .put .last .0 in
-    let e = c .before .before .before .before .before .before .evaluate2 in
+    let e = c .before .before .before .before .before .before .evaluate in
     (r : Ready (a .s .now) (a .at) (a .under) (a .log .now) (a .from) (a .left))
     → let n = next-is t (c .before .before .before .before .before .before .before .before .before .before .before .before .before) r in
     Evaluated (a .s .now) (l .done .next) (a .log .now) (l .done .taken) (a .left - 1) (midOf 1540 (length w - 1540) w) (l .out) (n .part) (n .closes) (n .after) (e .result) (e .last .1 .1 .1 .1 .1 .1 .0) (e .last .1 .1 .1 .1 .1 .1 .1 .0)
 part-is t c r =
-    let a = c .before .before .before .before .before .before .before .before .before .before .before .before .before .before .before .before .before .before .before .before .before .before .before .before .before .before .before .before .before .before .before .before .args in
+    let a = c .before .before .before .before .before .before .before .before .before .before .before .before .before .before .before .before .before .before .before .before .before .before .before .before .before .args in
     let l = c .before .before .before .before .before .before .before .before .before .before .before .before .before .before .before .before .loop in
-    c .before .before .before .before .before .before .evaluate2 .ensures (ready-next (a .s .now) (l .done .next) (a .under) (a .log .now) (l .done .taken) (a .left) (r .closes) (r .rest) (a .from + reads (r .plan)) (next-is t (c .before .before .before .before .before .before .before .before .before .before .before .before .before) r) (r .covered))
+    c .before .before .before .before .before .before .evaluate .ensures (ready-next (a .s .now) (l .done .next) (a .under) (a .log .now) (l .done .taken) (a .left) (r .closes) (r .rest) (a .from + reads (r .plan)) (next-is t (c .before .before .before .before .before .before .before .before .before .before .before .before .before) r) (r .covered))
 
--- the words lent below come back as many again
-again-back : (t : ℕ) (c : evaluate-lts.After-join-held-arg2 (evaluate-claims t) (evaluate-at t) evaluate.Post evaluate-Inv-loop evaluate-μ-loop) → length (c .before .before .before .before .before .before .evaluate2 .last .1 .1 .1 .1 .1 .1 .0) ≡ length (c .before .before .before .before .before .before .before .before .before .before .before .put .last .0) - 1540
-again-back t c =
-    let a = c .before .before .before .before .before .before .before .before .before .before .before .before .before .before .before .before .before .before .before .before .before .before .before .before .before .before .before .before .before .before .before .before in
-    let k = c .before .before .before .before .before .before .before .before .before .before .before .before .before .before .before .before .before in
-    c .before .before .before .before .before .before .evaluate2 .kept .1 .1 .1 .1 .1 .1 .0 ∙ below-long (c .before .before .before .before .before .before .before .before .before .before .before .put .last .0) (a .args .left) (positive t (k .before .before .before .before .before .before .before .before)) (omega (arith, c .before .before .before .before .before .before .before .before .before .before .before .put .kept .0, c .before .before .before .before .before .before .before .before .before .before .before .before .before .before .before .before .loop .inv .0, levels-first t k))
+-- the words lent below come back as many
+below-back : (t : ℕ) (c : evaluate-lts.After-join-held-arg2 (evaluate-claims t) (evaluate-at t) evaluate.Post evaluate-Inv-loop evaluate-μ-loop) → length (c .before .before .before .before .before .before .evaluate .last .1 .1 .1 .1 .1 .1 .0) ≡ length (c .before .before .before .before .before .before .before .before .before .before .before .put .last .0) - 1540
+below-back t c =
+    let a = c .before .before .before .before .before .before .before .before .before .before .before .before .before .before .before .before .before .before .before .before .before .before .before .before .before in
+    c .before .before .before .before .before .before .evaluate .kept .1 .1 .1 .1 .1 .1 .0 ∙ below-long (c .before .before .before .before .before .before .before .before .before .before .before .put .last .0) (a .args .left) (positive t (c .before .before .before .before .before .before .before .before .before .before .before .before .before .before .before .before .before .before)) (omega (arith, c .before .before .before .before .before .before .before .before .before .before .before .put .kept .0, c .before .before .before .before .before .before .before .before .before .before .before .before .before .before .before .before .loop .inv .0, a .pre .1 .1 .levels))
 
 evaluate-line-at-requires : (t : ℕ) → evaluate-lts.Need-line-at-requires (evaluate-claims t) (evaluate-at t) evaluate.Post evaluate-Inv-loop evaluate-μ-loop
 evaluate-line-at-requires t c κs = search needs
 
 evaluate-enum-told : (t : ℕ) → evaluate-lts.Need-enum-told (evaluate-claims t) (evaluate-at t) evaluate.Post evaluate-Inv-loop evaluate-μ-loop
 evaluate-enum-told t c = search needs
-
-evaluate-past-requires : (t : ℕ) → evaluate-lts.Need-past-requires (evaluate-claims t) (evaluate-at t) evaluate.Post evaluate-Inv-loop evaluate-μ-loop
-evaluate-past-requires t c κs = search needs
 
 evaluate-enum-known-l : (t : ℕ) → evaluate-lts.Need-enum-known-l (evaluate-claims t) (evaluate-at t) evaluate.Post evaluate-Inv-loop evaluate-μ-loop
 evaluate-enum-known-l t c = search needs
@@ -248,9 +189,6 @@ evaluate-of-trace-requires t c κs = search needs
 evaluate-count-of-requires : (t : ℕ) → evaluate-lts.Need-count-of-requires (evaluate-claims t) (evaluate-at t) evaluate.Post evaluate-Inv-loop evaluate-μ-loop
 evaluate-count-of-requires t c κs = search needs
 
-evaluate-past-requires-2 : (t : ℕ) → evaluate-lts.Need-past-requires-2 (evaluate-claims t) (evaluate-at t) evaluate.Post evaluate-Inv-loop evaluate-μ-loop
-evaluate-past-requires-2 t c κs = search needs
-
 evaluate-enum-known-l-2 : (t : ℕ) → evaluate-lts.Need-enum-known-l-2 (evaluate-claims t) (evaluate-at t) evaluate.Post evaluate-Inv-loop evaluate-μ-loop
 evaluate-enum-known-l-2 t c = search needs
 
@@ -260,141 +198,99 @@ evaluate-add-inner t c = omega (arith, c .before .before .before .before .before
 evaluate-sub-below : (t : ℕ) → evaluate-lts.Need-sub-below (evaluate-claims t) (evaluate-at t) evaluate.Post evaluate-Inv-loop evaluate-μ-loop
 evaluate-sub-below t c = omega (arith, positive t (c .before))
 
+evaluate-loop-holds : (t : ℕ) → evaluate-lts.Need-loop-holds (evaluate-claims t) (evaluate-at t) evaluate.Post evaluate-Inv-loop evaluate-μ-loop
+evaluate-loop-holds t c =
+    let a = c .before .before .before .before .before .before .before .before in
+    let k = c .before in
+    (refl, refl, λ r. begin (a .args .s .now) (a .args .at) (a .args .under) (a .args .log .now) (a .args .from) (a .args .left) (a .args .work .now) (a .args .out .now) (r .plan) (r .closes) (r .rest) (k .l2 .given .0 .0) (joined t k .1) (joined t k .2) (opened t k r) (r .deep) _ refl)
+
+evaluate-slice-reshare-prefix-put : (t : ℕ) → evaluate-lts.Need-slice-reshare-prefix-put (evaluate-claims t) (evaluate-at t) evaluate.Post evaluate-Inv-loop evaluate-μ-loop
+evaluate-slice-reshare-prefix-put t c = held-is t (c .before .before .before) .1
+
+evaluate-slice-aggregate-put : (t : ℕ) → evaluate-lts.Need-slice-aggregate-put (evaluate-claims t) (evaluate-at t) evaluate.Post evaluate-Inv-loop evaluate-μ-loop
+evaluate-slice-aggregate-put t c = sym (length-take-le _ _ (held-is t (c .before .before .before .before) .1))
+
+evaluate-put-requires : (t : ℕ) → evaluate-lts.Need-put-requires (evaluate-claims t) (evaluate-at t) evaluate.Post evaluate-Inv-loop evaluate-μ-loop
+evaluate-put-requires t c κs = search needs
+
 evaluate-sub-evaluate : (t : ℕ) → evaluate-lts.Need-sub-evaluate (evaluate-claims t) (evaluate-at t) evaluate.Post evaluate-Inv-loop evaluate-μ-loop
-evaluate-sub-evaluate t c = omega (arith, positive t (c .before), c .before .before .before .before .before .before .before .before .pre .1 .1 .levels)
+evaluate-sub-evaluate t c = omega (arith, c .before .before .put .kept .0, level-there t (c .before .before .before .before .before .before .before))
 
 evaluate-part-evaluate-start : (t : ℕ) → evaluate-lts.Need-part-evaluate-start (evaluate-claims t) (evaluate-at t) evaluate.Post evaluate-Inv-loop evaluate-μ-loop
-evaluate-part-evaluate-start t c = omega (arith, positive t (c .before), c .before .before .before .before .before .before .before .before .pre .1 .1 .levels)
+evaluate-part-evaluate-start t c = omega (arith, c .before .before .put .kept .0, level-there t (c .before .before .before .before .before .before .before))
 
 evaluate-part-evaluate-end : (t : ℕ) → evaluate-lts.Need-part-evaluate-end (evaluate-claims t) (evaluate-at t) evaluate.Post evaluate-Inv-loop evaluate-μ-loop
 evaluate-part-evaluate-end t c = search needs
 
 evaluate-evaluate-requires : (t : ℕ) → evaluate-lts.Need-evaluate-requires (evaluate-claims t) (evaluate-at t) evaluate.Post evaluate-Inv-loop evaluate-μ-loop
 evaluate-evaluate-requires t c κs =
-    let l = c .before .before .before in
-    let a = c .before .before .before .before .before .before .before .before .before .before in
-    let r = a .pre .1 .0 in
-    (omega (arith, a .pre .0, positive t l), (ready-first _ _ _ _ _ _ _ _ _ (opened t l r) (r .deep) (r .covered), below-roomy _ _ _ _ _ _ _ (a .pre .1 .1) (positive t l) _ (joined t l .2) (a .args .work .now) (a .args .out .now) refl refl))
-
-evaluate-loop-holds : (t : ℕ) → evaluate-lts.Need-loop-holds (evaluate-claims t) (evaluate-at t) evaluate.Post evaluate-Inv-loop evaluate-μ-loop
-evaluate-loop-holds t c =
-    let a = c .before .before .before .before .before .before .before .before .before .before .before .before .before .before .before in
-    let e = c .before .before .before .before .evaluate in
-    (refl, refl, λ r. restart _ _ _ _ _ _ (a .args .work .now) (a .args .out .now) _ _ _ _ _ _ (first-is t c r) (a .pre .1 .1 .room))
-
-evaluate-slice-reshare-prefix-put : (t : ℕ) → evaluate-lts.Need-slice-reshare-prefix-put (evaluate-claims t) (evaluate-at t) evaluate.Post evaluate-Inv-loop evaluate-μ-loop
-evaluate-slice-reshare-prefix-put t c = held-is t c .1
-
-evaluate-slice-aggregate-put : (t : ℕ) → evaluate-lts.Need-slice-aggregate-put (evaluate-claims t) (evaluate-at t) evaluate.Post evaluate-Inv-loop evaluate-μ-loop
-evaluate-slice-aggregate-put t c = sym (length-take-le _ _ (held-is t (c .before) .1))
-
-evaluate-put-requires : (t : ℕ) → evaluate-lts.Need-put-requires (evaluate-claims t) (evaluate-at t) evaluate.Post evaluate-Inv-loop evaluate-μ-loop
-evaluate-put-requires t c κs = search needs
-
-evaluate-sub-evaluate-2 : (t : ℕ) → evaluate-lts.Need-sub-evaluate-2 (evaluate-claims t) (evaluate-at t) evaluate.Post evaluate-Inv-loop evaluate-μ-loop
-evaluate-sub-evaluate-2 t c =
-    let k = c .before .before .before .before .before .before .before .before in
-    let l = c .before .before .before .before .before .before .before .loop in
-    omega (arith, c .before .before .put .kept .0, l .inv .0, levels-first t k, positive t (k .before .before .before .before .before .before .before .before))
-
-evaluate-part-evaluate-start-2 : (t : ℕ) → evaluate-lts.Need-part-evaluate-start-2 (evaluate-claims t) (evaluate-at t) evaluate.Post evaluate-Inv-loop evaluate-μ-loop
-evaluate-part-evaluate-start-2 t c =
-    let k = c .before .before .before .before .before .before .before .before in
-    let l = c .before .before .before .before .before .before .before .loop in
-    omega (arith, c .before .before .put .kept .0, l .inv .0, levels-first t k, positive t (k .before .before .before .before .before .before .before .before))
-
-evaluate-part-evaluate-end-2 : (t : ℕ) → evaluate-lts.Need-part-evaluate-end-2 (evaluate-claims t) (evaluate-at t) evaluate.Post evaluate-Inv-loop evaluate-μ-loop
-evaluate-part-evaluate-end-2 t c = search needs
-
-evaluate-evaluate-requires-2 : (t : ℕ) → evaluate-lts.Need-evaluate-requires-2 (evaluate-claims t) (evaluate-at t) evaluate.Post evaluate-Inv-loop evaluate-μ-loop
-evaluate-evaluate-requires-2 t c κs =
-    let a = c .before .before .before .before .before .before .before .before .before .before .before .before .before .before .before .before .before .before .before .before .before .before .before .before .before in
-    let g = c .before .before .before .before .before .before in
-    let k = c .before .before .before .before .before .before .before .before .before .before in
+    let a = c .before .before .before .before .before .before .before .before .before .before .before .before .before .before .before .before .before .before in
+    let k = c .before .before .before .before .before .before .before .before .before .before .before in
     let l = c .before .before .before .before .before .before .before .before .before .loop in
     let r = a .pre .1 .0 in
-    (omega (arith, a .pre .0, positive t (k .before .before .before .before .before .before .before .before)), (ready-next _ _ _ _ _ _ _ _ _ (next-is t g r) (r .covered), below-roomy _ _ _ _ _ _ _ (a .pre .1 .1) (positive t (k .before .before .before .before .before .before .before .before)) _ (l .inv .2 r .inside) (c .before .before .before .before .put .last .0) (l .out) (c .before .before .before .before .put .kept .0 ∙ l .inv .0 ∙ work-long t k) (l .inv .1 ∙ out-wide t k)))
+    (omega (arith, a .pre .0, positive t k), (ready-next _ _ _ _ _ _ _ _ _ (next-is t (c .before .before .before .before .before .before) r) (r .covered), below-roomy _ _ _ _ _ _ _ (a .pre .1 .1) (positive t k) _ (l .inv .2 r .inside) (c .before .before .before .before .put .last .0) (l .out) (c .before .before .before .before .put .kept .0 ∙ l .inv .0) (l .inv .1)))
 
 evaluate-join-held-requires : (t : ℕ) → evaluate-lts.Need-join-held-requires (evaluate-claims t) (evaluate-at t) evaluate.Post evaluate-Inv-loop evaluate-μ-loop
-evaluate-join-held-requires t c κs =
-    let a = c .before .before .before .before .before .before .before .before .before .before .before .before .before .before .before .before .before .before .before .before .before .before .before .before .before .before .before .before .before .before .before .before in
-    let k = c .before .before .before .before .before .before .before .before .before .before .before .before .before .before .before .before .before in
-    let l = c .before .before .before .before .before .before .before .before .before .before .before .before .before .before .before .before .loop in
-    let e = c .before .before .before .before .before .before .evaluate2 in
-    let r = a .pre .1 .0 in
-    holdable (a .args .s .now) (a .args .at) (a .args .under) (a .args .log .now) (a .args .from) (a .args .left) (work-first t k) (out-first t k) (r .plan) (r .closes) (r .rest) (positive t (k .before .before .before .before .before .before .before .before)) (levels-first t k)
-    (l .done) (l .work) (l .out) (l .inv .2 r) (a .pre .1 .1 .within) (l .inv .0) (l .inv .1) (room-first t k)
-    (next-is t (c .before .before .before .before .before .before .before .before .before .before .before .before .before) r) (c .before .before .before .before .before .before .before .before .before .before .before .put .last .0) (c .before .before .before .before .before .before .before .before .before .before .before .put .ensures ∙ placed-fits _ _ _ (held-fits t (c .before .before .before .before .before .before .before .before .before .before .before .before .before))) (c .before .before .before .before .before .before .before .before .before .before .before .put .kept .0) (e .result) (e .last .1 .1 .1 .1 .1 .1 .0) (e .last .1 .1 .1 .1 .1 .1 .1 .0) (again-back t c) (e .kept .1 .1 .1 .1 .1 .1 .1 .0) (part-is t c r)
-
-evaluate-past-requires-3 : (t : ℕ) → evaluate-lts.Need-past-requires-3 (evaluate-claims t) (evaluate-at t) evaluate.Post evaluate-Inv-loop evaluate-μ-loop
-evaluate-past-requires-3 t c κs = search needs
+evaluate-join-held-requires t c κs = search needs
 
 evaluate-loop-less : (t : ℕ) → evaluate-lts.Need-loop-less (evaluate-claims t) (evaluate-at t) evaluate.Post evaluate-Inv-loop evaluate-μ-loop
 evaluate-loop-less t c =
-    let a = c .before .before .before .before .before .before .before .before .before .before .before .before .before .before .before .before .before .before .before .before .before .before .before .before .before .before .before .before .before .before .before .before .before .before .before .before .before .before in
-    let e = part-is t (c .before .before .before .before .before .before) (a .pre .1 .0) in
-    let p : c .past3 .result .next ≡ c .before .before .before .before .before .before .before .before .before .before .before .before .evaluate2 .result .next = ap (λ (v : Done). v .next) (c .past3 .ensures) in
-    omega (arith, p, e .forward, e .inside)
+    let j = c .before .before .before .before .before in
+    let e = part-is t j (j .before .before .before .before .before .before .before .before .before .before .before .before .before .before .before .before .before .before .before .before .before .before .before .before .before .pre .1 .0) in
+    omega (arith, e .forward, e .inside)
 
 evaluate-loop-again : (t : ℕ) → evaluate-lts.Need-loop-again (evaluate-claims t) (evaluate-at t) evaluate.Post evaluate-Inv-loop evaluate-μ-loop
 evaluate-loop-again t c =
-    let a = c .before .before .before .before .before .before .before .before .before .before .before .before .before .before .before .before .before .before .before .before .before .before .before .before .before .before .before .before .before .before .before .before .before .before .before .before .before .before in
-    let j = c .before .before .before .before .before .before in
-    let k = j .before .before .before .before .before .before .before .before .before .before .before .before .before .before .before .before .before in
-    let l = j .before .before .before .before .before .before .before .before .before .before .before .before .before .before .before .before .loop in
-    let e = j .before .before .before .before .before .before .evaluate2 in
-    let h = c .before .before .before .before .before .join-held in
+    let j = c .before .before .before .before .before in
+    let a = j .before .before .before .before .before .before .before .before .before .before .before .before .before .before .before .before .before .before .before .before .before .before .before .before .before in
+    let m = j .before .before .before .before .before .before .before .before .before .before .before .before .before .before .before .before in
+    let l = m .loop in
+    let e = j .before .before .before .before .before .before .evaluate in
+    let h = c .before .before .before .before .join-held in
     let w = j .before .before .before .before .before .before .before .before .before .before .before .put in
-    let fits : 1540 ≤ length (w .last .0) = omega (arith, w .kept .0, l .inv .0, levels-first t k, positive t (k .before .before .before .before .before .before .before .before)) in (
-      h .kept .0 ∙ back-length 1540 (w .last .0) (e .last .1 .1 .1 .1 .1 .1 .0) fits (again-back t j) ∙ w .kept .0 ∙ l .inv .0,
+    let fits : 1540 ≤ length (w .last .0) = omega (arith, w .kept .0, level-there t m) in (
+      h .kept .0 ∙ back-length 1540 (w .last .0) (e .last .1 .1 .1 .1 .1 .1 .0) fits (below-back t j) ∙ w .kept .0 ∙ l .inv .0,
       h .kept .1 .1 .0 ∙ e .kept .1 .1 .1 .1 .1 .1 .1 .0 ∙ l .inv .1,
-      λ r. part-done (a .args .s .now) (a .args .at) (a .args .under) (a .args .log .now) (a .args .from) (a .args .left) (work-first t k) (out-first t k) (r .plan) (r .closes) (r .rest) (positive t (k .before .before .before .before .before .before .before .before)) (levels-first t k)
-          (l .done) (l .work) (l .out) (l .inv .2 r) (a .pre .1 .1 .within) (l .inv .0) (l .inv .1) (room-first t k)
-          (next-is t (j .before .before .before .before .before .before .before .before .before .before .before .before .before) r) (w .last .0) (w .ensures ∙ placed-fits _ _ _ (held-fits t (j .before .before .before .before .before .before .before .before .before .before .before .before .before))) (w .kept .0) (e .result) (e .last .1 .1 .1 .1 .1 .1 .0) (e .last .1 .1 .1 .1 .1 .1 .1 .0) (again-back t j) (e .kept .1 .1 .1 .1 .1 .1 .1 .0) (part-is t j r)
-          (h .result) (h .last .0) (h .last .1 .1 .0) (h .ensures .0 .0) (h .ensures .0 .1) (h .ensures .1) (c .past3 .result) (c .past3 .ensures),
+      λ r. part-done (a .args .s .now) (a .args .at) (a .args .under) (a .args .log .now) (a .args .from) (a .args .left) (a .args .work .now) (a .args .out .now) (r .plan) (r .closes) (r .rest) (positive t (j .before .before .before .before .before .before .before .before .before .before .before .before .before .before .before .before .before .before)) (a .pre .1 .1 .levels) (a .pre .1 .1 .within) (a .pre .1 .1 .room) (l .done) (l .work) (l .out) (l .inv .2 r) (l .inv .0) (l .inv .1)
+          (next-is t (j .before .before .before .before .before .before .before .before .before .before .before .before .before) r) (w .last .0) (w .ensures ∙ placed-fits _ _ _ (held-fits t m)) (w .kept .0) (e .result) (e .last .1 .1 .1 .1 .1 .1 .0) (e .last .1 .1 .1 .1 .1 .1 .1 .0) (below-back t j) (e .kept .1 .1 .1 .1 .1 .1 .1 .0) (part-is t j r)
+          (h .result) (h .last .0) (h .last .1 .1 .0) (h .ensures .0) (h .ensures .1 .0) (h .ensures .1 .1) _ refl,
     )
 
-evaluate-sub-past : (t : ℕ) → evaluate-lts.Need-sub-past (evaluate-claims t) (evaluate-at t) evaluate.Post evaluate-Inv-loop evaluate-μ-loop
-evaluate-sub-past t c = search needs
-
-evaluate-past-requires-4 : (t : ℕ) → evaluate-lts.Need-past-requires-4 (evaluate-claims t) (evaluate-at t) evaluate.Post evaluate-Inv-loop evaluate-μ-loop
-evaluate-past-requires-4 t c κs = search needs
+evaluate-sub-done : (t : ℕ) → evaluate-lts.Need-sub-done (evaluate-claims t) (evaluate-at t) evaluate.Post evaluate-Inv-loop evaluate-μ-loop
+evaluate-sub-done t c = search needs
 
 evaluate-returns : (t : ℕ) → evaluate-lts.Need-returns (evaluate-claims t) (evaluate-at t) evaluate.Post evaluate-Inv-loop evaluate-μ-loop
 evaluate-returns t c =
-    let a = c .before .before .before .before .before .before .before .before .args in
-    λ r. some-line (a .s .now) (a .at) (a .under) (r .plan) (r .closes) (r .rest) (r .stands) (no-line _ _ (c .before .before .before .before .before .before .before .before .pre .1 .1 .inside) _ _ (c .before .before .before .line-at .ensures) (c .before .enum-told .given .1))
+    let a = c .before .before .before .before .before .before .before .args in
+    λ r. some-line (a .s .now) (a .at) (a .under) (r .plan) (r .closes) (r .rest) (r .stands) (no-line _ _ (c .before .before .before .before .before .before .before .pre .1 .1 .inside) _ _ (c .before .before .line-at .ensures) (c .enum-told .given .1))
 
 evaluate-same-length : (t : ℕ) → evaluate-lts.Need-same-length (evaluate-claims t) (evaluate-at t) evaluate.Post evaluate-Inv-loop evaluate-μ-loop
 evaluate-same-length t c = search needs
 
 evaluate-returns-2 : (t : ℕ) → evaluate-lts.Need-returns-2 (evaluate-claims t) (evaluate-at t) evaluate.Post evaluate-Inv-loop evaluate-μ-loop
 evaluate-returns-2 t c =
-    let a = c .before .before .before .before .before .before .before .before .before .before .before .before .before .before .before in
-    let l = c .before .before .before .before .before .before .before .before in
+    let a = c .before .before .before .before .before .before .before .before .before .before .before .before .before .before in
+    let l = c .before .before .before .before .before .before .before in
     let g = l .l .given .0 in
-    let o = c .before .before .before .before .of-trace in
+    let o = c .before .before .before .of-trace in
     let n : a .args .from + g .0 - a .args .from ≡ g .0 = omega arith in
     let m : traceCall (midOf (a .args .from) (a .args .from + g .0 - a .args .from) (a .args .log .now)) (a .args .out .now) ≡ traceCall (span (a .args .from) (g .0) (a .args .log .now)) (a .args .out .now) =
     ap (λ (i : ℕ). traceCall (midOf (a .args .from) i (a .args .log .now)) (a .args .out .now)) n in
     λ r. seg-done (a .args .s .now) (a .args .at) (g .1 .1 .0) (a .args .log .now) (a .args .from) (a .args .left) (a .args .work .now) (a .args .out .now) (r .plan) (r .closes) (r .rest) (a .pre .1 .1 .within) (a .pre .1 .1 .room)
-    (segged t l .1) (segged t l .2) (g .0) (g .1 .0) (seg-is t l r) (c .before .count-of .result) (o .last .1 .0) (c .before .count-of .ensures ∙ ap countOf (o .ensures .0) ∙ ap (λ (v : Wrote). countOf (v .answer)) m) (o .ensures .1 ∙ ap (λ (v : Wrote). v .buffer) m) (c .past2 .result) (c .past2 .ensures)
+    (segged t l .1) (segged t l .2) (g .0) (g .1 .0) (seg-is t l r) (c .count-of .result) (o .last .1 .0) (c .count-of .ensures ∙ ap countOf (o .ensures .0) ∙ ap (λ (v : Wrote). countOf (v .answer)) m) (o .ensures .1 ∙ ap (λ (v : Wrote). v .buffer) m) _ refl
 
 evaluate-same-length-2 : (t : ℕ) → evaluate-lts.Need-same-length-2 (evaluate-claims t) (evaluate-at t) evaluate.Post evaluate-Inv-loop evaluate-μ-loop
-evaluate-same-length-2 t c = c .before .before .before .before .loop .inv .0 ∙ work-long t (c .before .before .before .before .before)
+evaluate-same-length-2 t c = c .before .before .before .loop .inv .0
 
 evaluate-same-length-3 : (t : ℕ) → evaluate-lts.Need-same-length-3 (evaluate-claims t) (evaluate-at t) evaluate.Post evaluate-Inv-loop evaluate-μ-loop
-evaluate-same-length-3 t c = c .before .before .before .before .loop .inv .1 ∙ out-wide t (c .before .before .before .before .before)
+evaluate-same-length-3 t c = c .before .before .before .loop .inv .1
 
 evaluate-returns-3 : (t : ℕ) → evaluate-lts.Need-returns-3 (evaluate-claims t) (evaluate-at t) evaluate.Post evaluate-Inv-loop evaluate-μ-loop
 evaluate-returns-3 t c =
-    let a = c .before .before .before .before .before .before .before .before .before .before .before .before .before .before .before .before .before .before .before .before in
-    let k = c .before .before .before .before .before in
-    let l = c .before .before .before .before .loop in
-    λ r. resume (a .args .s .now) (a .args .at) (a .args .under) (a .args .log .now) (a .args .from) (a .args .left) (a .args .work .now) (a .args .out .now) (r .plan) (r .closes) (r .rest) (k .before .before .before .before .evaluate .result) (work-first t k) (out-first t k) (first-is t k r) (a .pre .1 .1 .room)
-    (c .past4 .result) (l .work) (l .out)
-    (join-done (a .args .s .now) (a .args .at) (a .args .under) (a .args .log .now) (a .args .from) (a .args .left) (work-first t k) (out-first t k) (r .plan) (r .closes) (r .rest) (positive t (k .before .before .before .before .before .before .before .before)) (levels-first t k)
-    (l .done) (l .work) (l .out) (l .inv .2 r) (a .pre .1 .1 .within) (l .inv .0) (l .inv .1) (room-first t k) (λ z. omega (arith, z)) (c .past4 .result) (c .past4 .ensures))
+    let m = c .before .before .before in
+    let a = m .before .before .before .before .before .before .before .before .before in
+    let l = m .loop in
+    λ r. join-done (a .args .s .now) (a .args .at) (a .args .under) (a .args .log .now) (a .args .from) (a .args .left) (a .args .work .now) (a .args .out .now) (r .plan) (r .closes) (r .rest) (positive t (m .before .before)) (a .pre .1 .1 .levels) (a .pre .1 .1 .within) (a .pre .1 .1 .room) (l .done) (l .work) (l .out) (l .inv .2 r) (l .inv .0) (l .inv .1) (λ z. omega (arith, z)) _ refl
 
 pub +evaluate-spec : {M : Type 1} → statement M
 +evaluate-spec = close μ-evaluate λ t. evaluate-lts.spec (evaluate-claims t)
@@ -404,7 +300,6 @@ pub +evaluate-spec : {M : Type 1} → statement M
     evaluate-μ-loop
     (evaluate-line-at-requires t)
     (evaluate-enum-told t)
-    (evaluate-past-requires t)
     (evaluate-enum-known-l t)
     (evaluate-add-end t)
     (evaluate-mul-of-trace t)
@@ -413,28 +308,21 @@ pub +evaluate-spec : {M : Type 1} → statement M
     (evaluate-part-of-trace-end t)
     (evaluate-of-trace-requires t)
     (evaluate-count-of-requires t)
-    (evaluate-past-requires-2 t)
     (evaluate-enum-known-l-2 t)
     (evaluate-add-inner t)
     (evaluate-sub-below t)
-    (evaluate-sub-evaluate t)
-    (evaluate-part-evaluate-start t)
-    (evaluate-part-evaluate-end t)
-    (evaluate-evaluate-requires t)
     (evaluate-loop-holds t)
     (evaluate-slice-reshare-prefix-put t)
     (evaluate-slice-aggregate-put t)
     (evaluate-put-requires t)
-    (evaluate-sub-evaluate-2 t)
-    (evaluate-part-evaluate-start-2 t)
-    (evaluate-part-evaluate-end-2 t)
-    (evaluate-evaluate-requires-2 t)
+    (evaluate-sub-evaluate t)
+    (evaluate-part-evaluate-start t)
+    (evaluate-part-evaluate-end t)
+    (evaluate-evaluate-requires t)
     (evaluate-join-held-requires t)
-    (evaluate-past-requires-3 t)
     (evaluate-loop-less t)
     (evaluate-loop-again t)
-    (evaluate-sub-past t)
-    (evaluate-past-requires-4 t)
+    (evaluate-sub-done t)
     (evaluate-returns t)
     (evaluate-same-length t)
     (evaluate-returns-2 t)

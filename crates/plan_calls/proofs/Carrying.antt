@@ -1,5 +1,5 @@
 -- The call that carries a plan out: a law for each way that it returns.
-use mathlib.Core.Path.{_≡_, refl, sym, ap, _∙_}
+use mathlib.Core.Path.{_≡_, sym, ap, _∙_}
 use Prim.Native.Nat.{ℕ, _+_, _*_, _≤_, _<_}
 use native.Mathlib.Omega.{arith}
 use mathlib.Core.List.{List, [], _++_}
@@ -14,16 +14,12 @@ use Rattle.reuse.specs.Traces.{Within}
 use Rattle.reuse.proofs.Words.{length-summary}
 use Rattle.summary_calls.specs.declared.Written.{Written}
 use Rattle.summary_calls.specs.declared.Written.the-variants.{Words, Refused}
-use Rattle.texts.specs.Lines.{Read, got, refused}
+use Rattle.texts.specs.Lines.{Read, got}
 use Rattle.texts.specs.Plans.{Plan, textOf, reads, depth}
 use Rattle.texts.specs.PlanTexts.{planOf}
-use Rattle.texts.proofs.Tests.{never}
 use Rattle.texts.proofs.PlanSound.{sound}
-use Rattle.plan_reader.specs.declared.PlanRead.the-variants as planRead
-use Rattle.plan.specs.declared.evaluation.Done.{Done}
-use Rattle.plan_reader.specs.Answers.{answerOf}
-use Rattle.plan.specs.Calls.{levelWords, workWords, cleared, fronted, Ran, declined, carriedOut, planCall, runBy, runCall}
-use Rattle.plan.specs.Evaluation.{span, Stands, Ready, Roomy, Evaluated}
+use Rattle.plan_calls.specs.Calls.{levelWords, workWords, cleared, fronted, Ran, carriedOut, planCall, runBy, runCall}
+use Rattle.plan_calls.specs.Standing.{span, Stands, Ready, Roomy}
 
 -- what a call answers and leaves, by its definition
 abbrev pub Gives : Ran → Written → List ℕ → List ℕ → Type 0
@@ -39,23 +35,6 @@ unfolding cleared
 cleared-front n w y h e = ap (λ (v : List ℕ). v ++ drop n w) (e ∙ ap (λ (k : ℕ). replicate k 0) (length-take-le n w h))
 
 module _ (text log work out : List ℕ) where
-  -- the text is refused
-  pub text-refused : (n : ℕ) → planRead.Refused n ≡ answerOf (planOf text) → Gives (runCall text log work out) (Refused n) work out
-  unfolding runCall
-  text-refused n e = gives (runCall text log work out) (Refused n) work out (by (planOf text) e)
-    where
-      by : (p : Read Plan) → planRead.Refused n ≡ answerOf p → runBy p log work out ≡ declined n work out
-      by (got t) q = never (cc)
-      by (refused line m) q = let z : m ≡ n = cc in ap (λ (k : ℕ). declined k work out) z
-
-  -- the text is read
-  pub text-read : (m d : ℕ) → planRead.Plan m d ≡ answerOf (planOf text) → (t : Plan) × (planOf text ≡ got t) × (reads t ≡ m) × (depth t ≡ d)
-  text-read m d e = by (planOf text) refl e
-    where
-      by : (p : Read Plan) → planOf text ≡ p → planRead.Plan m d ≡ answerOf p → (t : Plan) × (planOf text ≡ got t) × (reads t ≡ m) × (depth t ≡ d)
-      by (got t) r q = (t, r, (cc), (cc))
-      by (refused line k) r q = never (cc)
-
   module _ (t : Plan) (is : planOf text ≡ got t) where
     -- the plan's own answer
     by-plan : runCall text log work out ≡ planCall t log work out
@@ -131,15 +110,16 @@ module _ (text log work out : List ℕ) where
           }
 
           -- the plan is carried out, and its work words are cleared
-          pub run-done : (r : Done) (w o w′ : List ℕ) → Evaluated text 0 log 0 deep work out t 0 [] r w o → w′ ≡ cleared (levelWords * deep) w → Gives (runCall text log work out) (Words (r .words)) w′ o
+          pub run-done : (words : ℕ) (w o w′ : List ℕ) → words ≡ length (summaryOf (span 0 (reads t) log)) → o ≡ fronted (summaryOf (span 0 (reads t) log)) out
+              → drop (levelWords * deep) w ≡ drop (levelWords * deep) work → w′ ≡ cleared (levelWords * deep) w → Gives (runCall text log work out) (Words words) w′ o
           unfolding cleared
-          run-done r w o w′ e c =
+          run-done words w o w′ counted written kept c =
               let n : levelWords * deep ≡ workWords t = omega arith in
               let l : span 0 (reads t) log ≡ log = take-all (reads t) log (omega arith) in
               let g = gives (runCall text log work out) (Words (length (summaryOf log))) (cleared (workWords t) work) (fronted (summaryOf log) out) carried in (
-                ap Words (e .counted ∙ ap (λ (v : List ℕ). length (summaryOf v)) l) ∙ g .0,
+                ap Words (counted ∙ ap (λ (v : List ℕ). length (summaryOf v)) l) ∙ g .0,
                 (
-                  c ∙ ap (λ (v : List ℕ). replicate (levelWords * deep) 0 ++ v) (e .kept) ∙ ap (λ (k : ℕ). replicate k 0 ++ drop k work) n ∙ g .1 .0,
-                  e .written ∙ ap (λ (v : List ℕ). fronted (summaryOf v) out) l ∙ g .1 .1,
+                  c ∙ ap (λ (v : List ℕ). replicate (levelWords * deep) 0 ++ v) kept ∙ ap (λ (k : ℕ). replicate k 0 ++ drop k work) n ∙ g .1 .0,
+                  written ∙ ap (λ (v : List ℕ). fronted (summaryOf v) out) l ∙ g .1 .1,
                 ),
               )

@@ -12,8 +12,8 @@ use Rattle.summary_calls.specs.declared.Written.the-variants.{Words}
 use Rattle.texts.specs.Bytes.{bytes}
 use Rattle.texts.specs.Plans.{seg, join, last, depth, partsDepth, reads, partsReads}
 use Rattle.texts.proofs.Examples.{plans-read}
-use Rattle.plan.specs.Calls.{cleared, fronted, runCall}
-use Rattle.plan.proofs.Carrying.{carried}
+use Rattle.plan_calls.specs.Calls.{cleared, fronted, runCall}
+use Rattle.plan_calls.proofs.Carrying.{carried}
 
 -- the log 7 3 7 9 3 3 9
 abbrev seven : List ℕ

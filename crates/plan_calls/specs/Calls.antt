@@ -34,6 +34,11 @@ cleared n row = replicate n 0 ++ drop n row
 unfoldable pub fronted : List ℕ → List ℕ → List ℕ
 fronted words buffer = words ++ drop (length words) buffer
 
+-- how many words a call has written
+abbrev pub countOf : Written → ℕ
+countOf (Words n) = n
+countOf (Refused n) = 0
+
 -- the answer, and both lent buffers after it
 pub record Ran : Type 0 where
   pub answer : Written

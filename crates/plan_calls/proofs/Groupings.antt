@@ -6,7 +6,7 @@ use lib.ListN.{take, drop, take-append-drop}
 use Rattle.reuse.specs.Summary.{summaryOf, joinOf}
 use Rattle.reuse.proofs.Join.{join-law}
 use Rattle.texts.specs.Plans.{Plan, Parts, seg, join, last, more, reads}
-use Rattle.plan.specs.Groupings.{groupedBy, joinedTo}
+use Rattle.plan_calls.specs.Groupings.{groupedBy, joinedTo}
 
 mutual
   unfolding groupedBy joinedTo

@@ -1,14 +1,15 @@
 -- The words of one level: what stands before, in and after words that were put, and around a part that was lent.
 use mathlib.Core.Path.{_≡_, refl, sym, ap, _∙_}
-use Prim.Native.Nat.{ℕ, _+_, _-_, _≤_}
+use Prim.Native.Nat.{ℕ, _+_, _-_, _*_, _≤_, _<_}
 use native.Mathlib.Omega.{arith}
 use mathlib.Core.List.{List, _++_, append-assoc, append-nil}
 use lib.ListN.{length, take, drop, length-append, length-drop, drop-of-length-le}
 use lib.Seq.{length-take-le, take-all, take-append-le, take-take, take-at, drop-at, drop-drop}
+use borrow.Author.Tests.{le-leb}
 use borrow.Rule.Slice.PartMut.{midOf, putMid, take-put}
 use Rattle.reuse_rows.specs.Rows.{putAt}
-use Rattle.plan.specs.Calls.{summaryWords, levelWords, fronted}
-use Rattle.plan.specs.Evaluation.{Holdable}
+use Rattle.summary_calls.specs.Calls.{wrote}
+use Rattle.plan_calls.specs.Calls.{levelWords, countOf, fronted}
 
 module _ (w : List ℕ) (at : ℕ) (l : List ℕ) (fits : at + length l ≤ length w) where
   -- as many words as stand before
@@ -88,16 +89,24 @@ front-again l m buffer h k =
     ∙ drop-drop (length m - length l) (length l) buffer
     ∙ ap (λ (n : ℕ). drop n buffer) e)
 
--- two summaries laid into a level's words: the one held before, the one put beside it, and what stands behind the level
-pub laid : (w out w′ : List ℕ) (held words : ℕ) → Holdable w out held words → w′ ≡ putAt w summaryWords (take words out)
-    → (take held w′ ≡ take held w) × (midOf summaryWords (summaryWords + words - summaryWords) w′ ≡ take words out) × (drop levelWords w′ ≡ drop levelWords w)
-laid w out w′ held words h e =
-    let n : length (take words out) ≡ words = length-take-le words out (h .fits) in
-    let f : summaryWords + length (take words out) ≤ length w = omega (arith, n, h .second, h .level) in
-    let m : summaryWords + words - summaryWords ≡ length (take words out) = omega (arith, n) in (
-      ap (take held) e ∙ put-before w summaryWords (take words out) f held (h .first),
-      ap (midOf summaryWords (summaryWords + words - summaryWords)) e
-          ∙ ap (λ (k : ℕ). midOf summaryWords k (putAt w summaryWords (take words out))) m
-          ∙ put-there w summaryWords (take words out) f,
-      ap (drop levelWords) e ∙ put-after w summaryWords (take words out) f levelWords (omega (arith, n, h .second)),
-    )
+-- words written where there is room
+pub wrote-front : (w buffer : List ℕ) → length w ≤ length buffer → (wrote w buffer .buffer ≡ fronted w buffer) × (countOf (wrote w buffer .answer) ≡ length w)
+unfolding wrote fronted
+wrote-front w buffer h = (rw (le-leb (length w) (length buffer) h), rw (le-leb (length w) (length buffer) h))
+
+-- one level and those below it
+pub levels-more : (left : ℕ) → 0 < left → levelWords + levelWords * (left - 1) ≡ levelWords * left
+levels-more left h = omega arith
+
+-- a part lent from one level on has the words of the levels below
+pub below-long : (work : List ℕ) (left : ℕ) → 0 < left → levelWords * left ≤ length work → length (midOf levelWords (length work - levelWords) work) ≡ length work - levelWords
+below-long work left h k = length-take-le (length work - levelWords) (drop levelWords work) (omega (arith, length-drop levelWords work))
+
+-- words kept below a level are kept
+pub level-kept : (left : ℕ) (w y : List ℕ) → 0 < left → levelWords * left ≤ length w → length y ≡ length w - levelWords
+    → drop (levelWords * (left - 1)) y ≡ drop (levelWords * (left - 1)) (midOf levelWords (length w - levelWords) w)
+    → drop (levelWords * left) (putMid levelWords (length w - levelWords) w y) ≡ drop (levelWords * left) w
+level-kept left w y h k same e =
+    ap (λ (n : ℕ). drop n (putMid levelWords (length w - levelWords) w y)) (sym (levels-more left h))
+    ∙ back-kept levelWords w y (omega arith) same (levelWords * (left - 1)) e
+    ∙ ap (λ (n : ℕ). drop n w) (levels-more left h)

@@ -1,0 +1,6 @@
+mod Examples
+pub mod Groupings
+pub mod Spans
+pub mod Levels
+pub mod Standing
+pub mod Carrying

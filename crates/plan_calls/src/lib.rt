@@ -1,0 +1,1 @@
+// What carrying a plan out answers: the definitions and their laws, no code.
