@@ -1,8 +1,8 @@
--- `listing_pages::put_end` meets its contract.
-use Rattle.listing_texts.proofs.PageLaws.{end-last, end-inner}
+-- `listing_rows::put_end` meets its contract.
+use Rattle.listing_rows.proofs.Laying.{end-last, end-inner}
 use borrow.Author.Needs.{needs}
-use Rattle.listing_pages.proofs.put_end.Statement.{statement}
-use Rattle.listing_pages.proofs.put_end.Tie as tie
+use Rattle.listing_rows.proofs.put_end.Statement.{statement}
+use Rattle.listing_rows.proofs.put_end.Tie as tie
 
 slice-aggregate-put : tie.Need-slice-aggregate-put
 slice-aggregate-put c = search needs
@@ -14,7 +14,7 @@ same-length : tie.Need-same-length
 same-length c = search needs
 
 returns : tie.Need-returns
-returns c = end-last (c .before .before .before .before .before .before .before .args .rows) (c .before .before .before .before .before .if1 .taken) (c .before .before .put .ensures)
+returns c = end-last _ _ (c .before .before .before .before .before .if1 .taken) (c .before .before .put .ensures)
 
 slice-aggregate-put-2 : tie.Need-slice-aggregate-put-2
 slice-aggregate-put-2 c = search needs
@@ -26,7 +26,7 @@ same-length-2 : tie.Need-same-length-2
 same-length-2 c = search needs
 
 returns-2 : tie.Need-returns-2
-returns-2 c = end-inner (c .before .before .before .before .before .before .before .args .rows) (c .before .before .before .before .before .if1 .left) (c .before .before .put2 .ensures)
+returns-2 c = end-inner _ _ (c .before .before .before .before .before .if1 .left) (c .before .before .put2 .ensures)
 
 pub put-end-spec : {M : Type 1} → statement M
 put-end-spec =

@@ -1,10 +1,10 @@
--- `listing_pages::put_number` meets its contract. The invariant is `Digits`.
+-- `listing_rows::put_number` meets its contract. The invariant is `Digits`.
 use mathlib.Core.Path.{refl}
 use native.Mathlib.Omega.{arith}
-use Rattle.listing_texts.proofs.DigitLaws.{Digits, digits-start, digits-room, digits-turn, digits-put, digits-long, digits-fit}
+use Rattle.listing_rows.proofs.Digits.{Digits, digits-start, digits-room, digits-turn, digits-laid, digits-long}
 use borrow.Author.Needs.{needs}
-use Rattle.listing_pages.proofs.put_number.Statement.{statement}
-use Rattle.listing_pages.proofs.put_number.Tie as tie
+use Rattle.listing_rows.proofs.put_number.Statement.{statement}
+use Rattle.listing_rows.proofs.put_number.Tie as tie
 
 abbrev Inv-loop : tie.InvT-loop
 Inv-loop page at n digits₀ first₀ left₀ digits first left = Digits n digits first left
@@ -49,13 +49,13 @@ part-put-end : tie.Need-part-put-end Inv-loop μ-loop
 part-put-end c = digits-long _ _ _ _ (c .before .before .before .before .loop .inv) _
 
 put-requires : tie.Need-put-requires Inv-loop μ-loop
-put-requires c κs = omega (arith, digits-fit _ _ _ _ (c .before .before .before .before .before .loop .inv) (c .before .before .before .digit2 .result))
+put-requires c κs = search needs
 
 same-length : tie.Need-same-length Inv-loop μ-loop
 same-length c = search needs
 
 returns : tie.Need-returns Inv-loop μ-loop
-returns c = digits-put _ _ _ _ (c .before .before .before .before .before .before .before .before .loop .inv) _ (c .before .before .before .before .before .before .digit2 .ensures) (omega arith) (omega arith) (c .before .before .put .ensures)
+returns c = digits-laid _ _ _ _ (c .before .before .before .before .before .before .before .before .loop .inv) _ (c .before .before .before .before .before .before .digit2 .ensures) (omega arith) _ (c .before .before .put .ensures)
 
 pub put-number-spec : {M : Type 1} → statement M
 put-number-spec =

@@ -1,8 +1,8 @@
--- `listing_pages::put_at` meets its contract.
-use Rattle.listing_texts.proofs.RowLaws.{row-put}
+-- `listing_rows::put_at` meets its contract.
+use Rattle.listing_rows.proofs.Laying.{row-then}
 use borrow.Author.Needs.{needs}
-use Rattle.listing_pages.proofs.put_at.Statement.{statement}
-use Rattle.listing_pages.proofs.put_at.Tie as tie
+use Rattle.listing_rows.proofs.put_at.Statement.{statement}
+use Rattle.listing_rows.proofs.put_at.Tie as tie
 
 slice-aggregate-put-named : tie.Need-slice-aggregate-put-named
 slice-aggregate-put-named c = search needs
@@ -23,9 +23,7 @@ same-length : tie.Need-same-length
 same-length c = search needs
 
 returns : tie.Need-returns
-returns c =
-    let a = c .before .before .before .before .before .before .before .before .before .before .before .before .before .before .before .args in
-    row-put (a .size) (a .misses) (a .rows) (c .before .before .before .before .before .before .before .before .before .before .before .put-named .ensures) (c .before .before .before .before .before .before .put-named2 .ensures) (c .before .before .put-end .ensures)
+returns c = row-then _ _ _ (c .before .before .before .before .before .before .before .before .before .before .before .before .before .before .before .args .rows) (c .before .before .before .before .before .before .before .before .before .before .before .put-named .ensures) (c .before .before .before .before .before .before .put-named2 .ensures) (c .before .before .put-end .ensures)
 
 pub put-at-spec : {M : Type 1} → statement M
 put-at-spec =

@@ -1,21 +1,25 @@
 -- The digits of a number, made from the last to the first.
-use mathlib.Core.Path.{_≡_, sym, _∙_}
+use mathlib.Core.Path.{_≡_, sym, ap, _∙_}
 use Prim.Native.Nat.{ℕ, suc, _+_, _-_, _/_, _%_, _≤_, _<_}
 use native.Mathlib.Omega.{arith}
 use mathlib.Core.List.{List, [], _∷_, _++_, append-assoc, append-nil}
 use lib.Dec.{ltb}
-use lib.ListN.{length, take, drop, set, drop-of-length-le, length-append, length-take, length-drop, length-set}
+use lib.ListN.{length, take, drop, set, drop-of-length-le, length-append, length-drop, length-set}
 use lib.Seq.{take-all, drop-cons, drop-set-lt, getD-set-same}
 use borrow.Author.Tests.{ltb-true, ltb-false}
 use Rattle.reuse.proofs.Lists.{by-test}
 use Rattle.texts.specs.Digits.{decimal, tooLong}
 use Rattle.texts.proofs.Numbers.{decimal-short, decimal-long, decimal-length}
-use Rattle.listing_texts.specs.Pages.{Put, numberRoom}
+use Rattle.listing_rows.specs.Laying.{Laid, lay}
 
 -- what stands from a place on, once a byte is written there
 drop-set : (l : List ℕ) (k x : ℕ) → k < length l → drop k (set l k x) ≡ x ∷ drop (suc k) l
 drop-set l k x h =
     drop-cons (set l k x) k 0 (simp length-set h) ∙ rw (getD-set-same l k x 0 h, drop-set-lt (suc k) l k x (omega arith))
+
+-- the most digits of a number
+abbrev numberRoom : ℕ
+numberRoom = 10
 
 -- the digits from `first` on are made; those of `left` stand before them
 pub record Digits (n : ℕ) (digits : List ℕ) (first left : ℕ) : Type 0 where
@@ -62,18 +66,11 @@ module _ (n : ℕ) (digits : List ℕ) (first left : ℕ) (h : Digits n digits f
       take-all (10 - (first - 1)) (drop (first - 1) (set digits (first - 1) x)) (simp (length-drop, length-set) (omega (arith, h .long)))
       ∙ rw (drop-set digits (first - 1) x (omega (arith, h .long, h .within)), s, e) (rw (decimal-short left g) at (h .same))
 
-  -- all are put
-  pub digits-put : (x : ℕ) → x ≡ 48 + left → left < 10 → n < tooLong → {was page : List ℕ} {at next : ℕ}
-      → Put was at (take (10 - (first - 1)) (drop (first - 1) (set digits (first - 1) x))) page next
-      → Put was at (decimal n) page next × (next ≤ at + numberRoom)
-  digits-put x e g l {was} {page} {at} {next} p =
-      let q : Put was at (decimal n) page next = rw (digits-end x e g) at p in
-      (q, omega (arith, q .past, decimal-length n l))
+  -- all are laid
+  pub digits-laid : (x : ℕ) → x ≡ 48 + left → left < 10 → (d : Laid) {e : Laid}
+      → e ≡ lay d (take (10 - (first - 1)) (drop (first - 1) (set digits (first - 1) x))) → e ≡ lay d (decimal n)
+  digits-laid x e g d p = p ∙ ap (lay d) (digits-end x e g)
 
   -- the row of digits keeps its length
   pub digits-long : (x : ℕ) → numberRoom ≤ length (set digits (first - 1) x)
   digits-long x = simp length-set (omega (arith, h .long))
-
-  -- there is room for them
-  pub digits-fit : (x : ℕ) → length (take (10 - (first - 1)) (drop (first - 1) (set digits (first - 1) x))) ≤ numberRoom
-  digits-fit x = simp (length-take, length-drop, length-set) (omega (arith, h .long))
