@@ -3,8 +3,7 @@ use listing_tally::LONGEST;
 use listing_tally::Phase;
 use listing_tally::Progress;
 ghost use mathlib.Core.Path.{_≡_};
-ghost use lib.ListN.{take};
-ghost use Rattle.listing.specs.Listers.{isStopped, stateIn, Turnable, Turned, turnAfter};
+ghost use Rattle.listing_turns.specs.Turns.{isStopped, reaches, turnAt, turnAfter, advanced};
 
 // How far a piece is taken: the position, the bytes held of a line that has not ended, and the text so far.
 pub struct Turn {
@@ -47,7 +46,29 @@ fn turned(line: [u8; LONGEST], p: Progress, next: usize, len: usize) -> Turn
     }
 }
 
-// The piece from `at` on is taken to the end of the next line, or to its own end.
+// At this position with these bytes held, the text as it was.
+fn kept(
+    at: usize,
+    line: [u8; LONGEST],
+    held: usize,
+    phase: Phase,
+    reads: u32,
+    extents: usize,
+) -> Turn
+    ensures { λ r. ⌜ r ≡ turnAt at line held phase reads extents ⌝ }
+{
+    Turn {
+        at,
+        line,
+        held,
+        phase,
+        reads,
+        extents,
+    }
+}
+
+// The piece from `at` on is taken to the end of its next line, or to its own end. Past a piece, or with more bytes held
+// than the longest line has, nothing is taken.
 pub fn advance(
     bytes: &[u8],
     at: usize,
@@ -59,25 +80,18 @@ pub fn advance(
     stack: &mut [u32],
     counts: &mut [u32],
 ) -> Turn
-    requires { ⌜ Turnable (now bytes) at line held phase reads extents (now stack) (now counts) ⌝ }
-    ensures { λ r. ⌜ Turned (now (bytes .entry)) at (stateIn phase reads extents (now (stack .entry)) (now (counts .entry)) (take held line)) r (now (stack .exit)) (now (counts .exit)) ⌝ }
+    ensures { λ r. ⌜ reaches r (now (stack .exit)) (now (counts .exit)) ≡ advanced (now (bytes .entry)) at line held phase reads extents (now (stack .entry)) (now (counts .entry)) ⌝ }
 {
+    if bytes.len() < at || LONGEST < held {
+        return kept(bytes.len(), line, held, phase, reads, extents);
+    }
     let n = texts_pieces::line_length(bytes, at, LONGEST + 1 - held);
     let end = at + n;
     let all = held + n;
-    if end == bytes.len() {
-        if all <= LONGEST {
-            let mut kept = line;
-            reuse_copies::put_bytes(&mut kept, held, &bytes[at..end]);
-            return Turn {
-                at: end,
-                line: kept,
-                held: all,
-                phase,
-                reads,
-                extents,
-            };
-        }
+    if end == bytes.len() && all <= LONGEST {
+        let mut more = line;
+        reuse_copies::put_bytes(&mut more, held, &bytes[at..end]);
+        return kept(end, more, all, phase, reads, extents);
     }
     let rest = &bytes[at..end];
     let p = listing_tally::end_line(line, held, rest, phase, reads, extents, stack, counts);

@@ -1,10 +1,10 @@
--- `listing::turning::turned` meets its contract.
+-- `listing_turns::turned` meets its contract.
 use mathlib.Core.Path.{_≡_, sym, _∙_}
 use mathlib.Core.Bool.{true, false}
-use Rattle.listing.specs.Listers.{isStopped}
+use Rattle.listing_turns.specs.Turns.{isStopped}
 use borrow.Author.Needs.{needs}
-use Rattle.listing.proofs.turning.turned.Statement.{statement}
-use Rattle.listing.proofs.turning.turned.Tie as tie
+use Rattle.listing_turns.proofs.turned.Statement.{statement}
+use Rattle.listing_turns.proofs.turned.Tie as tie
 
 stopped-requires : tie.Need-stopped-requires
 stopped-requires c κs = search needs

@@ -3,13 +3,14 @@ use mathlib.Core.Path.{_≡_, refl, sym, ap, subst, _∙_}
 use Prim.Native.Nat.{ℕ, suc, _+_, _-_, _≤_, _<_}
 use native.Mathlib.Omega.{arith}
 use mathlib.Core.List.{List, [], _∷_, _++_}
-use mathlib.Core.Bool.{true, false}
-use lib.Dec.{ltb, leb}
+use mathlib.Core.Bool.{true, false, _&&_}
+use lib.Dec.{eqb, ltb, leb}
 use lib.ListN.{length, take, drop, getD, length-drop, take-append-drop}
 use lib.Seq.{length-take-le, take-all, take-suc, split-at, drop-drop}
-use borrow.Author.Tests.{ltb-true, ltb-false, leb-true, leb-false}
+use borrow.Author.Tests.{ltb-true, ltb-false, leb-true, leb-false, eqb-true, eq-eqb}
 use Rattle.reuse_rows.specs.Rows.{placed}
-use Rattle.reuse.proofs.Lists.{by-test}
+use Rattle.reuse.proofs.Lists.{both, by-test}
+use Rattle.reuse_copies.proofs.Puts.{put-length, placed-fits}
 use Rattle.texts.specs.Lines.{Answer, to, no, at, stopped, lineCount}
 use Rattle.texts.specs.Logs.{longestLine}
 use Rattle.texts.proofs.Tests.{never}
@@ -26,7 +27,32 @@ use Rattle.listing_tally.specs.declared.Phase.the-variants.{Empty, Inside, Whol
 use Rattle.listing_tally.specs.declared.Progress.{Progress}
 use Rattle.listing_tally.proofs.Answers.{rest-put}
 use Rattle.listing_tally.proofs.Phases.{end-law}
-use Rattle.listing.specs.Listers.{stateIn, isStopped, Turnable, Turned, turnAfter}
+use Rattle.listing_turns.specs.Turns.{Reached, reaches, isStopped, turnAt, turnAfter, reachedBy, turnBy, advanced}
+use Rattle.listing_turns.specs.declared.Turn.{Turn}
+use Rattle.listing_turns.proofs.Ways.{way-counted}
+
+-- the state of a phase, a tally in its rows and the bytes held
+abbrev pub stateIn : Phase → ℕ → ℕ → List ℕ → List ℕ → List ℕ → State
+stateIn phase reads extents stack counts held = stateBy (takenBy phase (tallyIn reads extents stack counts)) held
+
+-- a piece can be taken further: the text is not refused, and what is held of a line fits
+pub record Turnable (bytes : List ℕ) (at : ℕ) (line : List ℕ) (held : ℕ) (phase : Phase) (reads extents : ℕ) (stack counts : List ℕ) : Type 0 where
+  pub more : at < length bytes
+  pub wide : length line ≡ longestLine
+  pub fits : held ≤ longestLine
+  pub tally : Tallied reads extents stack counts
+  pub goes : isStopped phase ≡ false
+
+-- it was taken further from a state: what is left of it does the same from the state reached
+pub record Turned (bytes : List ℕ) (from : ℕ) (before : State) (r : Turn) (stack counts : List ℕ) : Type 0 where
+  pub forward : from < r .at
+  pub inside : r .at ≤ length bytes
+  pub wide : length (r .line) ≡ longestLine
+  pub fits : r .held ≤ longestLine
+  pub tally : Tallied (r .reads) (r .extents) stack counts
+  pub goes : r .at < length bytes → isStopped (r .phase) ≡ false
+  pub same : unnumbered (takePiece before (drop from bytes))
+      ≡ unnumbered (takePiece (stateIn (r .phase) (r .reads) (r .extents) stack counts (take (r .held) (r .line))) (drop (r .at) bytes))
 
 -- a text that is not refused is somewhere
 going : (phase : Phase) (t : Tally) → isStopped phase ≡ false → (s : Taken) × (takenBy phase t ≡ to s)
@@ -47,6 +73,10 @@ module _ (bytes : List ℕ) (pos : ℕ) (line : List ℕ) (held : ℕ) (phase : 
   -- the state before
   abbrev before : State
   before = stateIn phase reads extents stack counts (take held line)
+
+  -- what is left to do from where the piece is taken to is what was left before
+  abbrev Leaves : Reached → Type 0
+  Leaves r = Turned bytes pos before (r .turn) (r .stack) (r .counts)
 
   -- where the text is
   here : (s : Taken) × (takenBy phase (tallyIn reads extents stack counts) ≡ to s)
@@ -96,22 +126,27 @@ module _ (bytes : List ℕ) (pos : ℕ) (line : List ℕ) (held : ℕ) (phase : 
         same = stop ∙ sym (ap unnumbered (stay 1 (drop (length bytes) bytes)));
       }
 
-  -- the line's other bytes, and it is not too long
-  module _ (rest : List ℕ) (rest-is : rest ≡ take n (drop pos bytes)) (h : held + n ≤ longestLine) where
-    -- as many as were counted
-    rest-long : length rest ≡ n
-    rest-long = ap length rest-is ∙ length-take-le n (drop pos bytes) (omega (arith, counted, left-long))
+  -- the line's other bytes
+  abbrev rest : List ℕ
+  rest = take n (drop pos bytes)
 
+  -- as many as were counted
+  rest-long : length rest ≡ n
+  rest-long = length-take-le n (drop pos bytes) (omega (arith, counted, left-long))
+
+  -- the line is not too long
+  module _ (h : held + n ≤ longestLine) where
     -- the piece ends before the line does
-    pub turn-kept : pos + n ≡ length bytes → (line′ : List ℕ) → length line′ ≡ length line → line′ ≡ placed line held rest
-        → Turned bytes pos before (record { at = pos + n; line = line′; held = held + n; phase = phase; reads = reads; extents = extents }) stack counts
-    turn-kept w line′ a e =
+    turn-kept : pos + n ≡ length bytes → Leaves (reaches (turnAt (pos + n) (placed line held rest) (held + n) phase reads extents) stack counts)
+    turn-kept w =
+        let line′ : List ℕ = placed line held rest in
+        let room : held + length rest ≤ length line = omega (arith, rest-long, g .wide) in
         let l : List ℕ = drop pos bytes in
         let all : take n l ≡ l = take-all n l (omega (arith, left-long)) in
         let c : lineCount l ≡ 0 = ap lineCount (sym all) ∙ no-end in
         let none : drop (pos + n) bytes ≡ [] = gone bytes (pos + n) (omega arith) in
         let k : take (held + n) line′ ≡ take held line ++ l =
-        ap (λ (j : ℕ). take (held + j) line′) (sym rest-long) ∙ rest-put line held rest (omega (arith, rest-long, g .wide)) line′ e ∙ ap (λ (v : List ℕ). take held line ++ v) (rest-is ∙ all) in
+        ap (λ (j : ℕ). take (held + j) line′) (sym rest-long) ∙ rest-put line held rest room line′ refl ∙ ap (λ (v : List ℕ). take held line ++ v) all in
         let fed : takePiece before l ≡ at 0 (take held line ++ l) (here .0) =
         ap (λ (v : State). takePiece v l) before-is ∙ kept (here .0) (take held line) l (omega (arith, held-long, g .fits)) c (omega (arith, held-long, left-long)) in
         let after : stateIn phase reads extents stack counts (take (held + n) line′) ≡ at 0 (take held line ++ l) (here .0) =
@@ -119,7 +154,7 @@ module _ (bytes : List ℕ) (pos : ℕ) (line : List ℕ) (held : ℕ) (phase : 
         record {
           forward = omega (arith, g .more);
           inside = omega arith;
-          wide = a ∙ g .wide;
+          wide = ap length (placed-fits line held rest room) ∙ put-length line held rest room ∙ g .wide;
           fits = h;
           tally = g .tally;
           goes = λ z. g .goes;
@@ -139,13 +174,12 @@ module _ (bytes : List ℕ) (pos : ℕ) (line : List ℕ) (held : ℕ) (phase : 
       all-is =
           sym (take-append-drop n (drop pos bytes))
           ∙ ap (λ (v : List ℕ). take n (drop pos bytes) ++ v) (drop-drop n pos bytes ∙ length-ends bytes pos (longestLine + 1 - held) n (omega (arith, g .more)) is (omega arith) w)
-          ∙ ap (λ (v : List ℕ). v ++ (10 ∷ drop (suc (pos + n)) bytes)) (sym rest-is)
 
       -- what is left to do after it
       line-done : unnumbered (takePiece before (drop pos bytes)) ≡ unnumbered (takePiece (stateBy (takenIn p stack′ counts′) []) (drop (suc (pos + n)) bytes))
       line-done =
           ap (λ (v : State). unnumbered (takePiece v (drop pos bytes))) before-is
-          ∙ ended (here .0) (take held line) (drop pos bytes) (omega (arith, held-long, g .fits)) rest (drop (suc (pos + n)) bytes) all-is (ap lineCount rest-is ∙ no-end) (omega (arith, held-long, rest-long))
+          ∙ ended (here .0) (take held line) (drop pos bytes) (omega (arith, held-long, g .fits)) rest (drop (suc (pos + n)) bytes) all-is no-end (omega (arith, held-long, rest-long))
           ∙ ap (λ (a : Answer Taken). unnumbered (takePiece (stateBy a []) (drop (suc (pos + n)) bytes))) (sym (line-taken .0 ∙ ap (λ (a : Answer Taken). andThen a (take held line ++ rest)) (here .1)))
 
       -- the text is refused
@@ -181,24 +215,39 @@ module _ (bytes : List ℕ) (pos : ℕ) (line : List ℕ) (held : ℕ) (phase : 
       turn-line : Turned bytes pos before (turnAfter line p (pos + n + 1) (length bytes)) stack′ counts′
       turn-line = by-test (isStopped (p .phase)) (λ z. rw z (turn-stopped z)) (λ z. rw z (turn-ended z))
 
-  -- what a standing leaves to do
-  abbrev Leaves : Standing → Type 0
-  Leaves s = Turned bytes pos before (turnAfter line (s .progress) (pos + n + 1) (length bytes)) (s .stack) (s .counts)
-
   -- the line ends in the piece, or is too long
-  pub turn-over : (rest : List ℕ) → rest ≡ take n (drop pos bytes) → (pos + n ≡ length bytes → longestLine < held + n)
-      → (p : Progress) (stack′ counts′ : List ℕ) → standsAt p stack′ counts′ ≡ endTaken reads extents stack counts phase line held rest
-      → Turned bytes pos before (turnAfter line p (pos + n + 1) (length bytes)) stack′ counts′
+  turn-over : (pos + n ≡ length bytes → longestLine < held + n) → Leaves (reachedBy line (pos + n + 1) (length bytes) (endTaken reads extents stack counts phase line held rest))
   unfolding endTaken
-  turn-over rest r over p stack′ counts′ e =
-      let k : length rest ≡ n = ap length r ∙ length-take-le n (drop pos bytes) (omega (arith, counted, left-long)) in
+  turn-over over =
       by-test (leb (held + length rest) longestLine)
-      (λ z. let h : held + n ≤ longestLine = omega (arith, leb-true (held + length rest) longestLine z, k) in
-      turn-line rest r h (before-end h over) p stack′ counts′ e)
-      (λ z. let q : standsAt p stack′ counts′ ≡ standsAt (stop 1 reads extents) stack counts = e ∙ rw z in
-      subst Leaves (sym q) (turn-long (omega (arith, leb-false (held + length rest) longestLine z, k))))
+      (λ z. let h : held + n ≤ longestLine = omega (arith, leb-true (held + length rest) longestLine z, rest-long) in
+      turn-line h (before-end h over) _ _ _ refl)
+      (λ z. let q : endTaken reads extents stack counts phase line held rest ≡ standsAt (stop 1 reads extents) stack counts = rw z in
+      subst (λ (s : Standing). Leaves (reachedBy line (pos + n + 1) (length bytes) s)) (sym q) (turn-long (omega (arith, leb-false (held + length rest) longestLine z, rest-long))))
     where
       -- a line that fits and ends in the piece
       before-end : held + n ≤ longestLine → (pos + n ≡ length bytes → longestLine < held + n) → pos + n < length bytes
       before-end h f = by-test (ltb (pos + n) (length bytes)) (λ z. ltb-true (pos + n) (length bytes) z)
           (λ z. absurd (let q = f (omega (arith, ltb-false (pos + n) (length bytes) z, counted)) in omega (arith, q)))
+
+  -- either way
+  turn-by : Leaves (turnBy bytes pos line held phase reads extents stack counts n)
+  turn-by =
+      by-test (eqb (pos + n) (length bytes) && leb (held + n) longestLine)
+      (λ z. let b = both (eqb (pos + n) (length bytes)) (leb (held + n) longestLine) z in
+      rw z (turn-kept (leb-true (held + n) longestLine (b .1)) (eqb-true (pos + n) (length bytes) (b .0))))
+      (λ z. rw z (turn-over (over z)))
+    where
+      -- a line that the piece ends in does not fit
+      over : (eqb (pos + n) (length bytes) && leb (held + n) longestLine) ≡ false → pos + n ≡ length bytes → longestLine < held + n
+      over z e = leb-false (held + n) longestLine (rw (eq-eqb (pos + n) (length bytes) e) at z)
+
+-- a piece that can be taken further is: what is left of it does the same from the state reached
+pub advance-turned : (bytes : List ℕ) (pos : ℕ) (line : List ℕ) (held : ℕ) (phase : Phase) (reads extents : ℕ) (stack counts : List ℕ)
+    → Turnable bytes pos line held phase reads extents stack counts → (r : Reached) → r ≡ advanced bytes pos line held phase reads extents stack counts
+    → Turned bytes pos (stateIn phase reads extents stack counts (take held line)) (r .turn) (r .stack) (r .counts)
+advance-turned bytes pos line held phase reads extents stack counts g r e =
+    let n : ℕ = lineLength (longestLine + 1 - held) (drop pos bytes) in
+    subst (Leaves bytes pos line held phase reads extents stack counts g n refl)
+    (sym (e ∙ way-counted bytes pos line held phase reads extents stack counts (omega (arith, g .more)) (g .fits) n refl))
+    (turn-by bytes pos line held phase reads extents stack counts g n refl)
