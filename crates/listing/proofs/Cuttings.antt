@@ -4,12 +4,13 @@ use Prim.Native.Nat.{ℕ}
 use mathlib.Core.List.{List, [], _∷_}
 use Rattle.texts.specs.Lines.{at}
 use Rattle.texts.specs.Logs.{logOf}
+use Rattle.listing_texts.specs.Pieces.{endToEnd}
 use Rattle.listing_texts.specs.Listings.{listingOf}
 use Rattle.listing_texts.specs.Feeding.{empty, State, takePiece, unnumbered, printedAt, verdictBy, verdictAt}
 use Rattle.listing_texts.proofs.Refining.{pieces-join, listing-whole, verdict-text}
 use Rattle.listing_texts.proofs.Unnumbered.{take-none, uncounted, printed-uncounted, verdict-uncounted}
 use Rattle.listing.specs.Listers.{stateOf}
-use Rattle.listing.specs.Runs.{endToEnd, Fed}
+use Rattle.listing.specs.Runs.{Fed}
 use Rattle.listing.specs.declared.Lister.{Lister}
 
 -- pieces fed one by one are all of them fed at once

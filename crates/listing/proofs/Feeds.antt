@@ -16,11 +16,13 @@ use Rattle.texts.proofs.Positions.{gone}
 use Rattle.listing_texts.specs.Feeding.{State, takePiece, unnumbered}
 use Rattle.listing_texts.proofs.Unnumbered.{take-none, stay, unnumbered-same}
 use Rattle.listing_tally.specs.Rows.{Tallied, tallyIn, takenBy}
-use Rattle.listing.specs.Listers.{stateIn, isStopped, soundLister, stateOf, takesMore, Turnable, Turned}
+use Rattle.listing_turns.specs.Turns.{isStopped, reaches, advanced}
+use Rattle.listing_turns.specs.declared.Turn.{Turn}
+use Rattle.listing_turns.proofs.Turns.{stateIn, Turnable, Turned, advance-turned}
+use Rattle.listing.specs.Listers.{soundLister, stateOf, takesMore}
 use Rattle.listing_tally.specs.declared.Phase.{Phase}
 use Rattle.listing_tally.specs.declared.Phase.the-variants.{Empty, Inside, Whole, Stopped}
 use Rattle.listing.specs.declared.Lister.{Lister}
-use Rattle.listing.specs.declared.turning.Turn.{Turn}
 
 -- rows that hold a tally make a sound lister
 pub sound-from : (l : Lister) → l .held ≤ longestLine → Tallied (l .reads) (l .extents) (l .stack) (l .counts) → soundLister l ≡ true
@@ -82,20 +84,25 @@ module _ (bytes : List ℕ) (start : State) (phase : Phase) (line : List ℕ) (h
 
   module _ (pos : ℕ) (f : Fed bytes start phase line held reads extents stack counts pos) where
     -- more can be taken
-    pub fed-more : pos < length bytes → Turnable bytes pos line held phase reads extents stack counts
+    fed-more : pos < length bytes → Turnable bytes pos line held phase reads extents stack counts
     fed-more h = record { more = h; wide = f .wide; fits = f .fits; tally = f .tally; goes = f .goes h }
 
-    -- a turn
-    pub fed-turn : (r : Turn) (stack′ counts′ : List ℕ) → Turned bytes pos (stateIn phase reads extents stack counts (take held line)) r stack′ counts′
-        → Fed bytes start (r .phase) (r .line) (r .held) (r .reads) (r .extents) stack′ counts′ (r .at)
-    fed-turn r stack′ counts′ t = record {
-      inside = t .inside;
-      fits = t .fits;
-      wide = t .wide;
-      tally = t .tally;
-      goes = t .goes;
-      same = f .same ∙ t .same;
-    }
+    -- a turn from here
+    module _ (h : pos < length bytes) (r : Turn) (stack′ counts′ : List ℕ) (e : reaches r stack′ counts′ ≡ advanced bytes pos line held phase reads extents stack counts) where
+      -- takes the piece further
+      pub fed-on : Turned bytes pos (stateIn phase reads extents stack counts (take held line)) r stack′ counts′
+      fed-on = advance-turned bytes pos line held phase reads extents stack counts (fed-more h) (reaches r stack′ counts′) e
+
+      -- and leaves what was left
+      pub fed-turn : Fed bytes start (r .phase) (r .line) (r .held) (r .reads) (r .extents) stack′ counts′ (r .at)
+      fed-turn = record {
+        inside = fed-on .inside;
+        fits = fed-on .fits;
+        wide = fed-on .wide;
+        tally = fed-on .tally;
+        goes = fed-on .goes;
+        same = f .same ∙ fed-on .same;
+      }
 
     -- all is taken
     pub fed-end : length bytes ≤ pos → (l : Lister) → l ≡ record { line = line; held = held; phase = phase; reads = reads; extents = extents; stack = stack; counts = counts }

@@ -13,7 +13,8 @@ use Rattle.texts.proofs.Tests.{never}
 use Rattle.listing_texts.specs.Feeding.{Taken, empty, inside, whole, State, takenWhole, printedBy, printedAt, verdictBy, verdictAt, stateBy}
 use Rattle.listing_texts.specs.Listings.{listed, refusedText}
 use Rattle.listing_tally.specs.Rows.{Tallied, tallyIn, takenBy}
-use Rattle.listing.specs.Listers.{soundLister, stateOf, stateIn}
+use Rattle.listing_turns.proofs.Turns.{stateIn}
+use Rattle.listing.specs.Listers.{soundLister, stateOf}
 use Rattle.listing_texts.specs.Pages.{Counted}
 use Rattle.listing_texts.specs.Tallies.{Tally, missesBy}
 use Rattle.listing.specs.declared.Lister.{Lister}

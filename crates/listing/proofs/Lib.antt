@@ -1,4 +1,3 @@
-pub mod Turns
 pub mod Feeds
 pub mod Soundness
 pub mod Cuttings

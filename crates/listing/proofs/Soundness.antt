@@ -14,7 +14,8 @@ use Rattle.texts.specs.Logs.{longestLine}
 use Rattle.texts.proofs.Tests.{never}
 use Rattle.listing_texts.specs.Feeding.{empty}
 use Rattle.listing_tally.specs.Rows.{Tallied}
-use Rattle.listing.specs.Listers.{soundLister, stateOf, stateIn}
+use Rattle.listing_turns.proofs.Turns.{stateIn}
+use Rattle.listing.specs.Listers.{soundLister, stateOf}
 use Rattle.listing.specs.declared.Lister.{Lister}
 use Rattle.listing_tally.specs.declared.Phase.the-variants.{Empty}
 

@@ -1,6 +1,4 @@
 // The listing of a log text: its reads, its cold reads, and for every size from 1 to the number of its extents the misses.
-mod turning;
-
 ghost use mathlib.Core.Path.{_≡_};
 ghost use mathlib.Core.List.{[]};
 ghost use Prim.Native.Nat.{_≤_};
@@ -69,7 +67,7 @@ impl Lister {
         ensures { λ r. ⌜ r ≡ takesMore self ⌝ }
     {
         let phase = self.phase;
-        if turning::stopped(phase) {
+        if listing_turns::stopped(phase) {
             return false;
         }
         self.sound()
@@ -92,7 +90,7 @@ impl Lister {
         let mut counts = self.counts;
         let mut at: usize = 0;
         while at < bytes.len() {
-            let t = turning::advance(
+            let t = listing_turns::advance(
                 bytes,
                 at,
                 line,

@@ -2,14 +2,16 @@
 use mathlib.Core.Path.{_≡_, sym, ap, _∙_}
 use Prim.Native.Nat.{ℕ, _+_, _-_, _%_, _≤_, _<_, _^_}
 use native.Mathlib.Omega.{arith}
-use mathlib.Core.List.{List, _++_}
+use mathlib.Core.List.{List, _++_, append-assoc}
 use mathlib.Core.Bool.{Bool}
 use lib.Dec.{leb}
-use lib.ListN.{length, take, getD, set}
+use lib.ListN.{length, take, drop, getD, set, length-append}
+use lib.Seq.{take-at, length-take-le}
 use borrow.Author.Tests.{leb-true, le-ltb, lt-ltb, le-leb, lt-leb}
 use Rattle.reuse.specs.Limits.{maxReads}
 use Rattle.reuse.proofs.Lists.{by-test}
-use Rattle.reuse_rows.specs.Rows.{placed}
+use Rattle.reuse_rows.specs.Rows.{placed, putAt}
+use Rattle.reuse_copies.proofs.Puts.{placed-fits}
 use Rattle.reuse_engine.specs.Engine.{placeOf, leftBy}
 use Rattle.reuse_engine.specs.declared.Place.{Place}
 use Rattle.reuse_engine.specs.declared.Place.the-variants.{Cold, Depth, Full, BadCount}
@@ -18,7 +20,6 @@ use Rattle.texts.specs.Limits.{maxExtent}
 use Rattle.texts.specs.Words.{after}
 use Rattle.texts.specs.Logs.{traceWord, rowOf, longestLine}
 use Rattle.texts.proofs.Tests.{never}
-use Rattle.listing_texts.proofs.PageLaws.{placed-put}
 use Rattle.listing_lines.specs.Forms.{rowFound, headFound}
 use Rattle.listing_lines.specs.declared.Row.{Row}
 use Rattle.listing_tally.specs.declared.Phase.{Phase}
@@ -146,4 +147,8 @@ module _ (front : List ℕ) (held : ℕ) (rest : List ℕ) where
 
   -- the rest is put behind those held
   pub rest-put : held + length rest ≤ length front → (line : List ℕ) → line ≡ placed front held rest → take (held + length rest) line ≡ take held front ++ rest
-  rest-put h line e = placed-put front held rest line h e .front
+  unfolding putAt
+  rest-put h line e =
+      let w : length (take held front ++ rest) ≡ held + length rest = simp (length-append, length-take-le held front (omega arith)) in
+      ap (take (held + length rest)) (e ∙ placed-fits front held rest h ∙ sym (append-assoc (take held front) rest (drop (held + length rest) front)))
+      ∙ take-at (take held front ++ rest) (drop (held + length rest) front) (held + length rest) w

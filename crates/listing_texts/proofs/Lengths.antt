@@ -8,14 +8,16 @@ use Rattle.reuse.specs.Limits.{maxExtents}
 use Rattle.reuse.specs.Lists.{firsts}
 use Rattle.reuse.specs.Lru.{isCold, isAbove, reuses, missesAt}
 use Rattle.reuse.proofs.Counts.{count-le}
+use Rattle.reuse.proofs.Sums.{sum-drop-le}
 use Rattle.reuse.proofs.Stack.{length-reuses}
 use Rattle.texts.specs.Digits.{tooLong}
 use Rattle.texts.specs.Lines.{got}
 use Rattle.texts.specs.Logs.{logOf, Within}
 use Rattle.texts.proofs.Numbers.{decimal-length}
 use Rattle.texts.proofs.LogSound.{sound}
-use Rattle.listing_texts.specs.Listings.{coldRow, atRows, listed, sizesOf, listingOf}
-use Rattle.listing_texts.specs.Pages.{rowRoom, pageBytes}
+use Rattle.listing_texts.specs.Listings.{coldRow, atRows, listed, refusedText, sizesOf, listingOf}
+use Rattle.listing_texts.specs.Tallies.{missesBy}
+use Rattle.listing_texts.specs.Pages.{rowRoom, pageBytes, Counted}
 use Rattle.listing_texts.proofs.RowLaws.{rowAt, rows-cons}
 use Rattle.listing_texts.proofs.Listings.{listing-read}
 
@@ -44,6 +46,16 @@ unfolding listed
 listed-length reads cold m h g b =
     simp length-append
     (omega (arith, decimal-length reads h, cold-length cold (omega arith), rows-length m b cold 1 (omega arith)))
+
+-- that of the listing of counts that add up
+pub counted-length : (reads : ℕ) (counts : List ℕ) → reads < tooLong → Counted reads counts → length (listed reads (length counts) (missesBy counts)) ≤ pageBytes
+counted-length reads counts h g =
+    listed-length reads (length counts) (missesBy counts) h (g .few) (λ d. omega (arith, sum-drop-le d counts, g .whole))
+
+-- that of a refusal
+pub refused-length : (n : ℕ) → n < tooLong → length (refusedText n) ≤ pageBytes
+unfolding refusedText
+refused-length n h = simp length-append (omega (arith, decimal-length n h))
 
 -- the misses are at most twice the reads
 misses-bound : (c : ℕ) (t : List ℕ) → missesAt c (reuses [] t) ≤ length t + length t

@@ -3,7 +3,5 @@ pub mod Refining
 pub mod Unnumbered
 pub mod Listings
 pub mod Examples
-pub mod PageLaws
-pub mod DigitLaws
 pub mod RowLaws
 pub mod Lengths

@@ -1,4 +1,5 @@
 pub mod Tallies
+pub mod Pieces
 pub mod Listings
 pub mod Feeding
 pub mod Pages

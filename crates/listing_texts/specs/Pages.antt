@@ -1,10 +1,10 @@
--- Pages of output: what it is that bytes are put on one, and the room that each piece of a listing is given.
+-- Pages of output: their bytes, the end of a row, and the text of the page of a listing.
 use mathlib.Core.Path.{_≡_}
 use Prim.Native.Nat.{ℕ, zero, suc, _+_, _≤_}
 use mathlib.Core.List.{List, [], _∷_, _++_}
 use mathlib.Core.Bool.{cond, _&&_}
 use lib.Dec.{eqb, leb}
-use lib.ListN.{length, take}
+use lib.ListN.{length}
 use Rattle.reuse.specs.Limits.{maxExtents}
 use Rattle.reuse.specs.Lists.{sum}
 use Rattle.texts.specs.Words.{close}
@@ -15,22 +15,9 @@ use Rattle.listing_texts.specs.Tallies.{missesBy}
 abbrev pub pageBytes : ℕ
 pageBytes = 8_192
 
--- the most digits of a number
-abbrev pub numberRoom : ℕ
-numberRoom = 10
-
--- the most bytes that end a row
-abbrev pub endRoom : ℕ
-endRoom = 3
-
 -- more bytes than the row of any size has
 abbrev pub rowRoom : ℕ
 rowRoom = 30
-
--- the bytes stand at place `at` of the page, after what stood before that place; `next` is the place after them
-pub record Put (was : List ℕ) (at : ℕ) (bytes : List ℕ) (page : List ℕ) (next : ℕ) : Type 0 where
-  pub past : next ≡ at + length bytes
-  pub front : take next page ≡ take at was ++ bytes
 
 -- how many brackets close a row that so many rows follow: the last row closes the listing too
 abbrev pub closing : ℕ → ℕ

@@ -1,5 +1,5 @@
 -- `listing_pages::listing_page` meets its contract.
-use mathlib.Core.Path.{_≡_, refl, ap, _∙_}
+use mathlib.Core.Path.{_≡_, ap, _∙_}
 use Prim.Native.Nat.{_≤_}
 use native.Mathlib.Omega.{arith}
 use lib.ListN.{length}
@@ -7,7 +7,11 @@ use lib.Seq.{take-all}
 use Rattle.reuse.specs.Limits.{maxExtents}
 use Rattle.reuse.specs.Lists.{sum}
 use Rattle.listing_texts.specs.Pages.{Counted}
+use Rattle.listing_texts.specs.Tallies.{missesBy}
 use Rattle.listing_texts.proofs.RowLaws.{page-listed, page-many, page-other}
+use Rattle.listing_texts.proofs.Lengths.{counted-length}
+use Rattle.listing_pages.specs.Texts.{blankPage}
+use Rattle.listing_pages.proofs.Pieces.{listing-joins, shows-laid, shows-same}
 use borrow.Author.Needs.{needs}
 use Rattle.listing_pages.proofs.listing_page.Statement.{statement}
 use Rattle.listing_pages.proofs.listing_page.Tie as tie
@@ -24,7 +28,7 @@ refused-page-requires : tie.Need-refused-page-requires
 refused-page-requires c κs = search needs
 
 returns : tie.Need-returns
-returns c = (c .refused-page .ensures .0 ∙ page-many _ _ (c .before .if1 .taken), c .refused-page .ensures .1)
+returns c = shows-same _ _ _ (page-many _ _ (c .before .if1 .taken)) (c .refused-page .ensures)
 
 total-requires : tie.Need-total-requires
 total-requires c κs = search needs
@@ -38,16 +42,21 @@ refused-page-requires-2 c κs = search needs
 returns-2 : tie.Need-returns-2
 returns-2 c =
     let s = total-is (c .before .before) (c .before .before .before .if1 .left) in
-    (c .refused-page2 .ensures .0 ∙ page-other _ _ (omega arith) (λ e. c .before .if2 .taken (omega arith)), c .refused-page2 .ensures .1)
+    shows-same _ _ _ (page-other _ _ (omega arith) (λ e. c .before .if2 .taken (omega arith))) (c .refused-page2 .ensures)
 
 slice-aggregate-put-listing : tie.Need-slice-aggregate-put-listing
 slice-aggregate-put-listing c = search needs
 
 put-listing-requires : tie.Need-put-listing-requires
-put-listing-requires c κs = (adds c, refl)
+put-listing-requires c κs = adds c
 
 returns-3 : tie.Need-returns-3
-returns-3 c = (c .before .put-listing .ensures .0 ∙ page-listed _ _ (adds (c .before .before)), c .before .put-listing .ensures .1)
+unfolding blankPage
+returns-3 c =
+    let a = c .before .before .before .before .before .before .before .args in
+    let g = adds (c .before .before) in
+    shows-same _ _ _ (page-listed (a .reads) (a .counts .now) g)
+    (shows-laid _ _ (listing-joins (a .reads) (length (a .counts .now)) (missesBy (a .counts .now))) (counted-length (a .reads) (a .counts .now) (omega arith) g) _ _ (c .before .put-listing .ensures))
 
 pub listing-page-spec : {M : Type 1} → statement M
 listing-page-spec =

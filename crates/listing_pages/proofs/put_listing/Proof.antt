@@ -1,7 +1,7 @@
 -- `listing_pages::put_listing` meets its contract.
 use lib.ListN.{length}
 use Rattle.listing_texts.specs.Tallies.{missesBy}
-use Rattle.listing_texts.proofs.RowLaws.{listing-put}
+use Rattle.listing_pages.proofs.Pieces.{listing-then}
 use borrow.Author.Needs.{needs}
 use Rattle.listing_pages.proofs.put_listing.Statement.{statement}
 use Rattle.listing_pages.proofs.put_listing.Tie as tie
@@ -33,7 +33,7 @@ same-length c = search needs
 returns : tie.Need-returns
 returns c =
     let a = c .before .before .before .before .before .before .before .before .before .before .before .before .before .before .before .before .before .before .before .before .args in
-    (listing-put (a .reads) (length (a .counts .now)) (missesBy (a .counts .now)) (c .before .before .before .before .before .before .before .before .before .before .before .before .before .before .before .put-named .ensures) (c .before .before .before .before .before .before .before .before .before .before .put-named2 .ensures) (c .before .before .before .before .before .before .put-end .ensures) (c .before .before .put-rows .ensures .0), search needs)
+    listing-then _ (a .reads) (length (a .counts .now)) (missesBy (a .counts .now)) (c .before .before .before .before .before .before .before .before .before .before .before .before .before .before .before .put-named .ensures) (c .before .before .before .before .before .before .before .before .before .before .put-named2 .ensures) (c .before .before .before .before .before .before .put-end .ensures) (c .before .before .put-rows .ensures)
 
 pub put-listing-spec : {M : Type 1} → statement M
 put-listing-spec =

@@ -1,5 +1,5 @@
 -- `listing_pages::put_refused` meets its contract.
-use Rattle.listing_texts.proofs.RowLaws.{refused-put}
+use Rattle.listing_pages.proofs.Pieces.{refusal-then}
 use borrow.Author.Needs.{needs}
 use Rattle.listing_pages.proofs.put_refused.Statement.{statement}
 use Rattle.listing_pages.proofs.put_refused.Tie as tie
@@ -10,17 +10,14 @@ slice-aggregate-put-named c = search needs
 put-named-requires : tie.Need-put-named-requires
 put-named-requires c κs = search needs
 
-slice-aggregate-put : tie.Need-slice-aggregate-put
-slice-aggregate-put c = search needs
-
-put-requires : tie.Need-put-requires
-put-requires c κs = search needs
+put-end-requires : tie.Need-put-end-requires
+put-end-requires c κs = search needs
 
 same-length : tie.Need-same-length
 same-length c = search needs
 
 returns : tie.Need-returns
-returns c = refused-put (c .before .before .before .before .before .before .before .before .before .before .before .args .n) (c .before .before .before .before .before .before .before .put-named .ensures) (c .before .before .put .ensures)
+returns c = refusal-then _ _ (c .before .before .before .before .before .before .put-named .ensures) (c .before .before .put-end .ensures)
 
 pub put-refused-spec : {M : Type 1} → statement M
 put-refused-spec =
@@ -28,7 +25,6 @@ put-refused-spec =
     (tie.spec
     slice-aggregate-put-named
     put-named-requires
-    slice-aggregate-put
-    put-requires
+    put-end-requires
     same-length
     returns)

@@ -2,7 +2,7 @@
 use Prim.Native.Nat.{_-_}
 use native.Mathlib.Omega.{arith}
 use lib.ListN.{length}
-use Rattle.listing_texts.proofs.RowLaws.{Rows, rows-start, rows-left, rows-room, rows-turn, rows-end}
+use Rattle.listing_pages.proofs.Rows.{Rows, rows-start, rows-left, rows-turn, rows-end}
 use borrow.Author.Needs.{needs}
 use Rattle.listing_pages.proofs.put_rows.Statement.{statement}
 use Rattle.listing_pages.proofs.put_rows.Tie as tie
@@ -14,7 +14,7 @@ abbrev μ-loop : tie.MeasureT-loop
 μ-loop page₀ at reads counts next₀ misses₀ i₀ page next misses i = length counts - i
 
 loop-holds : tie.Need-loop-holds Inv-loop μ-loop
-loop-holds c = rows-start _ _ _ _ (c .before .before .pre .0) (c .before .before .pre .1)
+loop-holds c = rows-start _ _ _ _ (c .before .before .pre)
 
 mul-misses : tie.Need-mul-misses Inv-loop μ-loop
 mul-misses c = search needs
@@ -32,10 +32,10 @@ sub-rows : tie.Need-sub-rows Inv-loop μ-loop
 sub-rows c = search needs
 
 cast-put-at : tie.Need-cast-put-at Inv-loop μ-loop
-cast-put-at c = omega (arith, c .before .before .before .before .before .before .pre .0 .few)
+cast-put-at c = omega (arith, c .before .before .before .before .before .before .pre .few)
 
 put-at-requires : tie.Need-put-at-requires Inv-loop μ-loop
-put-at-requires c κs = rows-room _ _ _ _ _ _ _ (c .before .before .before .loop .inv) (omega arith)
+put-at-requires c κs = search needs
 
 loop-less : tie.Need-loop-less Inv-loop μ-loop
 loop-less c = search needs

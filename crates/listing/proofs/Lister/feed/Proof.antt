@@ -7,8 +7,10 @@ use lib.ListN.{length, take}
 use borrow.Author.Tests.{not-true, not-false}
 use Rattle.texts.proofs.Tests.{never}
 use Rattle.listing_texts.specs.Feeding.{State, takePiece, unnumbered}
-use Rattle.listing.specs.Listers.{stateIn, isStopped, soundLister, takesMore}
-use Rattle.listing.proofs.Feeds.{idle-stays, goes-on, Fed, fed-start, fed-more, fed-turn, fed-end}
+use Rattle.listing_turns.specs.Turns.{isStopped}
+use Rattle.listing_turns.proofs.Turns.{stateIn}
+use Rattle.listing.specs.Listers.{soundLister, takesMore}
+use Rattle.listing.proofs.Feeds.{idle-stays, goes-on, Fed, fed-start, fed-on, fed-turn, fed-end}
 use Rattle.listing.proofs.Soundness.{sound-facts, state-sound}
 use borrow.Author.Needs.{needs}
 use Rattle.listing.proofs.Lister.feed.Statement.{statement}
@@ -52,15 +54,13 @@ slice-aggregate-advance-2 : tie.Need-slice-aggregate-advance-2 Inv-loop μ-loop
 slice-aggregate-advance-2 c = sym (c .before .before .before .loop .inv .tally .counts-wide)
 
 advance-requires : tie.Need-advance-requires Inv-loop μ-loop
-advance-requires c κs = fed-more _ _ _ _ _ _ _ _ _ _ (c .before .before .before .loop .inv) (omega arith)
+advance-requires c κs = search needs
 
 loop-less : tie.Need-loop-less Inv-loop μ-loop
-loop-less c = let t = c .before .before .before .advance .ensures in omega (arith, t .forward, t .inside)
+loop-less c = let t = fed-on _ _ _ _ _ _ _ _ _ _ (c .before .before .before .before .before .before .before .loop .inv) (omega arith) _ _ _ (c .before .before .before .advance .ensures) in omega (arith, t .forward, t .inside)
 
 loop-again : tie.Need-loop-again Inv-loop μ-loop
-loop-again c =
-    let e = c .before .before .before .advance in
-    fed-turn _ _ _ _ _ _ _ _ _ _ (c .before .before .before .before .before .before .before .loop .inv) (e .result) (e .last .1 .1 .1 .1 .1 .1 .1 .0) (e .last .1 .1 .1 .1 .1 .1 .1 .1 .0) (e .ensures)
+loop-again c = fed-turn _ _ _ _ _ _ _ _ _ _ (c .before .before .before .before .before .before .before .loop .inv) (omega arith) _ _ _ (c .before .before .before .advance .ensures)
 
 returns-2 : tie.Need-returns-2 Inv-loop μ-loop
 returns-2 c =

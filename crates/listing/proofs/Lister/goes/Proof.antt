@@ -1,7 +1,7 @@
 -- `listing::Lister::goes` meets its contract.
 use mathlib.Core.Path.{_≡_, sym, _∙_}
 use mathlib.Core.Bool.{false}
-use Rattle.listing.specs.Listers.{isStopped}
+use Rattle.listing_turns.specs.Turns.{isStopped}
 use borrow.Author.Needs.{needs}
 use Rattle.listing.proofs.Lister.goes.Statement.{statement}
 use Rattle.listing.proofs.Lister.goes.Tie as tie
