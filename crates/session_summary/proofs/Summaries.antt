@@ -31,7 +31,7 @@ use Rattle.session_marks.proofs.Marks.{row-count}
 use Rattle.session_marks.proofs.Passes.{gathered-pair}
 use Rattle.session_marks.proofs.Search.{pair-of}
 use Rattle.session.proofs.Sound.{Kept, rows-of, length-first, length-stack, kept-few, root, kept-root, hist-total}
-use Rattle.session.proofs.Stands.{Stands}
+use Rattle.session_traces.proofs.Stands.{Stands}
 
 -- the words of a session with sound rows
 module _ (s : Session) (k : Kept s) where

@@ -16,7 +16,7 @@ use Rattle.summary_calls.proofs.Traces.{join-trace}
 use Rattle.session.specs.declared.Session.{Session}
 use Rattle.session.specs.Sessions.{fresh}
 use Rattle.session_summary.specs.Summaries.{summaryCall}
-use Rattle.session.proofs.Stands.{Stands, fresh-stands}
+use Rattle.session_traces.proofs.Stands.{Stands, fresh-stands}
 use Rattle.session_summary.proofs.Summaries.{summary-trace}
 use Rattle.whole.specs.Runs.{sessionAfter, accepted, handed, stopped, outcome, Grouping, part, joined, parts, logOf, joinedWith, grouped, roomFor, roomy}
 use Rattle.whole.proofs.Calls.{calls-stand}

@@ -11,7 +11,7 @@ use Rattle.reuse.proofs.Cache.{cache-law}
 use Rattle.session.specs.declared.Answer.{Answer}
 use Rattle.session.specs.declared.Answer.the-variants.{Cold, Distance, Refused}
 use Rattle.session.specs.Sessions.{fresh}
-use Rattle.session.proofs.Stands.{fresh-stands}
+use Rattle.session_traces.proofs.Stands.{fresh-stands}
 use Rattle.after.specs.Calls.{wordOf}
 use Rattle.whole.specs.Runs.{answersOf, sessionAfter, handed, stopped, Grouping, parts, logOf, grouped, roomy}
 use Rattle.whole.specs.Cuttings.{Cutting, cutParts, Follows, cutDistances, cutRoomy}

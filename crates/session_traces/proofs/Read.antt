@@ -10,21 +10,21 @@ use borrow.Author.Tests.{eq-eqb, ne-eqb, eqb-true, eqb-false, not-true}
 use Rattle.reuse.specs.Lists.{mem, firsts, sum}
 use Rattle.reuse.specs.Lru.{Reuse, cold, at, depth, stack}
 use Rattle.reuse.specs.Limits.{maxReads, maxExtents, slotCount, levels}
 use Rattle.session.specs.declared.Session.{Session}
 use Rattle.session.specs.declared.Step.{Step}
 use Rattle.session.specs.declared.Answer.{Answer}
 use Rattle.session.specs.declared.Answer.the-variants.{Distance, Refused}
 use Rattle.session_sums.specs.Sums.{neighbours}
 use Rattle.session.specs.Sessions.{marks, extents, stackOf, sound}
 use Rattle.session.specs.Reads.{roomed, slotOf, stepAt, taken, turnedAway, tooMany, readOf}
 use Rattle.session_soundness.specs.Soundness.{Wide}
 use Rattle.reuse.proofs.Lists.{by-test, both}
 use Rattle.reuse.proofs.Stack.{mem-stack}
 use Rattle.session_sums.proofs.Tree.{full}
 use Rattle.session_sums.proofs.Walks.{neighbours-count, neighbours-total}
 use Rattle.session.proofs.Sound.{Kept, Sound, true-sound, kept-sound, kept-wide, kept-few, kept-trued}
 use Rattle.session.proofs.Taken.{kept-roomed, kept-taken, taken-reads, slot-below, slot-depth}
-use Rattle.session.proofs.Stands.{Stands, stands-known, known-stands, known-extents, known-roomed, known-taken}
+use Rattle.session_traces.proofs.Stands.{Stands, stands-known, known-stands, known-extents, known-roomed, known-taken}
 
 -- a sound session's read, refused or not, leaves a sound session, whether or not a trace gave it
 module _ (s : Session) (w : Wide (s .first) (s .hist) (s .slots) (s .sums)) (ok : sound s ≡ true) (x : ℕ) where

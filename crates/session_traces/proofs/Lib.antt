@@ -1,0 +1,3 @@
+pub mod Stands
+pub mod Read
+pub mod Examples

@@ -1,0 +1,1 @@
+// Sessions that have read a trace: laws, no code.
