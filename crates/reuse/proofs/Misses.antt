@@ -9,7 +9,7 @@ use lib.ListN.{length, drop, length-append}
 use borrow.Author.Tests.{leb-true, leb-false, lt-ltb, le-ltb}
 use Rattle.reuse.specs.Lists.{mem, firsts, from, sum, count}
 use Rattle.reuse.specs.Lru.{Reuse, cold, at, touch, stack, reuses, isCold, isAbove, within, countAt, missesAt}
-use Rattle.reuse.specs.Cache.{cacheMisses}
+use Rattle.reuse.specs.Cache.{cacheMisses, hitCount}
 use Rattle.reuse.specs.Summary.{histogram, summaryOf, readsOf, countsOf, hitsOf, missesOf}
 use Rattle.reuse.proofs.Lists.{by-test, firsts-known, firsts-new}
 use Rattle.reuse.proofs.Stack.{length-reuses, stack-snoc, mem-stack}
@@ -46,6 +46,17 @@ within-misses c (at d ∷ rs) =
 pub cache-misses : (c : ℕ) (t : List ℕ) → cacheMisses c t ≡ missesAt c (reuses [] t)
 unfolding cacheMisses
 cache-misses c t = rw (cache-law c t) (misses-count c (reuses [] t))
+
+-- tests that hold, counted
+held-count : (c : ℕ) (rs : List Reuse) → count (λ b. b) (map (within c) rs) ≡ count (within c) rs
+unfolding count
+held-count c [] = refl
+held-count c (r ∷ rs) = by-test (within c r) (λ e. simp (e, held-count c rs)) (λ e. simp (e, held-count c rs))
+
+-- the hits of the cache of size c are the reads of distance at most c
+pub cache-hits : (c : ℕ) (t : List ℕ) → hitCount c t ≡ count (within c) (reuses [] t)
+unfolding hitCount
+cache-hits c t = rw (cache-law c t) (held-count c (reuses [] t))
 
 -- cold reads after the reads a: the extents that are new
 cold-from : (a b : List ℕ) → length (firsts a) + count isCold (reuses (stack a) b) ≡ length (firsts (a ++ b))

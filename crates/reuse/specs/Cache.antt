@@ -48,3 +48,7 @@ cacheAfter c t = holds c [] [] t
 -- the misses of a whole trace
 unfoldable pub cacheMisses : ℕ → List ℕ → ℕ
 cacheMisses c t = count not (cacheHits c t)
+
+-- the hits of a whole trace, counted
+unfoldable pub hitCount : ℕ → List ℕ → ℕ
+hitCount c t = count (λ b. b) (cacheHits c t)

@@ -14,16 +14,16 @@ use Rattle.session.specs.declared.Session.{Session}
 use Rattle.session.specs.declared.Step.{Step}
 use Rattle.session.specs.declared.Answer.{Answer}
 use Rattle.session.specs.declared.Answer.the-variants.{Distance, Refused}
-use Rattle.session_sums.specs.Sums.{neighbours}
 use Rattle.session.specs.Sessions.{marks, extents, stackOf, sound}
 use Rattle.session.specs.Reads.{roomed, slotOf, stepAt, taken, turnedAway, tooMany, readOf}
 use Rattle.session_soundness.specs.Soundness.{Wide}
+use Rattle.session_traces.specs.Walks.{onTheWay, totalAt, Walks}
 use Rattle.reuse.proofs.Lists.{by-test, both}
 use Rattle.reuse.proofs.Stack.{mem-stack}
 use Rattle.session_sums.proofs.Tree.{full}
 use Rattle.session_sums.proofs.Walks.{neighbours-count, neighbours-total}
 use Rattle.session.proofs.Sound.{Kept, Sound, true-sound, kept-sound, kept-wide, kept-few, kept-trued}
-use Rattle.session.proofs.Taken.{kept-roomed, kept-taken, taken-reads, slot-below, slot-depth}
+use Rattle.session.proofs.Taken.{Roomed, kept-roomed, kept-taken, taken-reads, slot-below, slot-depth}
 use Rattle.session_traces.proofs.Stands.{Stands, stands-known, known-stands, known-extents, known-roomed, known-taken}
 
 -- a sound session's read, refused or not, leaves a sound session, whether or not a trace gave it
@@ -63,13 +63,9 @@ module _ (s : Session) (w : Wide (s .first) (s .hist) (s .slots) (s .sums)) (ok 
   pub read-wide : let r = readOf s x .session in Wide (r .first) (r .hist) (r .slots) (r .sums)
   read-wide = kept-wide (readOf s x .session) (read-keeps .0)
 
--- the sums that a read of a known extent reads: the right-hand neighbours on the way up from its slot
-abbrev pub onTheWay : Session → ℕ → List ℕ
-onTheWay s x = neighbours slotCount levels (slotOf s x)
-
--- its distance is 1 plus the total of those sums, and the number of sums read is how many they are
-pub taken-neighbours : (s : Session) → Kept s → (x : ℕ) → mem x (stackOf s) ≡ true
-    → taken s x .answer ≡ Distance (suc (sum (map (λ p. getD (s .sums) p 0) (onTheWay s x)))) (length (onTheWay s x))
+-- an accepted read of a known extent by a session with room
+taken-neighbours : (s : Session) → Kept s → (x : ℕ) → mem x (stackOf s) ≡ true
+    → taken s x .answer ≡ Distance (suc (totalAt s (onTheWay s x))) (length (onTheWay s x))
 unfolding taken
 taken-neighbours s k x old =
     let below : slotOf s x < slotCount = omega (arith, slot-below s k x old, k .rows .low) in
@@ -79,6 +75,18 @@ taken-neighbours s k x old =
       neighbours-count levels slotCount (slotOf s x) full below,
     )
     (unfold marks in refl)
+
+-- the distance of an accepted read of a known extent is 1 plus the total of the sums on the way up, of every sound session
+pub walks : Walks
+unfolding readOf tooMany
+walks s w ok x old short =
+    let m : Roomed s (roomed s) = kept-roomed s (true-sound s w ok .kept) in
+    let held : mem x (stackOf (roomed s)) ≡ true = ap (mem x) (m .stacked) ∙ old in
+    let below : slotOf (roomed s) x < slotCount = omega (arith, slot-below (roomed s) (m .kept) x held, m .room) in
+    record {
+      answer = rw (ok, ne-eqb (s .reads) maxReads (λ e. omega arith), old) (taken-neighbours (roomed s) (m .kept) x held);
+      zeros-read = neighbours-count levels slotCount (slotOf (roomed s) x) full below;
+    }
 
 -- x would be one extent too many for the trace t
 abbrev pub over : List ℕ → ℕ → Bool

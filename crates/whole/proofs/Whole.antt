@@ -12,6 +12,7 @@ use Rattle.session.specs.declared.Answer.{Answer}
 use Rattle.session.specs.declared.Answer.the-variants.{Cold, Distance, Refused}
 use Rattle.session.specs.Sessions.{fresh}
 use Rattle.session_traces.proofs.Stands.{fresh-stands}
+use Rattle.session_traces.proofs.Read.{walks}
 use Rattle.after.specs.Calls.{wordOf}
 use Rattle.whole.specs.Runs.{answersOf, sessionAfter, handed, stopped, Grouping, parts, logOf, grouped, roomy}
 use Rattle.whole.specs.Cuttings.{Cutting, cutParts, Follows, cutDistances, cutRoomy}
@@ -21,6 +22,7 @@ use Rattle.whole.proofs.Refusals.{calls-owed, no-trace}
 use Rattle.whole.proofs.Groupings.{session-outcome, grouping-outcome}
 use Rattle.whole.proofs.Plans.{plan-outcome}
 use Rattle.whole.proofs.Prefixes.{cutting-outcome}
+use Rattle.whole.proofs.Counts.{counts}
 
 -- a cache of this size holds the extent, by what was seen
 abbrev held : ℕ → Seen → Bool
@@ -83,8 +85,9 @@ runs t w = record {
   plans = plan-outcome t w;
   distances = distances t w;
   caches = caches t w;
+  counts = λ c. counts c t w;
 }
 
 -- demand 3
 pub claim : Claim
-claim = record { calls = calls-owed; no-trace = no-trace; runs = runs }
+claim = record { calls = calls-owed; no-trace = no-trace; walks = walks; runs = runs }

@@ -7,7 +7,7 @@ use lib.Dec.{leb, ltb}
 use lib.ListN.{length}
 use Rattle.reuse.specs.Limits.{maxReads, maxExtents}
 use Rattle.reuse.specs.Lists.{firsts}
-use Rattle.reuse.specs.Lru.{Reuse, cold, at, reuses, distance}
+use Rattle.reuse.specs.Lru.{Reuse, cold, at, reuses, distance, within}
 use Rattle.reuse.specs.Cache.{cacheHits}
 use Rattle.reuse.specs.Summary.{summaryOf}
 use Rattle.reuse.specs.Traces.{Within}
@@ -15,12 +15,14 @@ use Rattle.after.specs.Calls.{wordOf}
 use Rattle.session.specs.declared.Answer.{Answer}
 use Rattle.session.specs.declared.Answer.the-variants.{Cold, Distance, Refused}
 use Rattle.session.specs.Sessions.{fresh}
+use Rattle.session_traces.specs.Walks.{Walks}
 use Rattle.session_summary.specs.Summaries.{summaryCall}
 use Rattle.texts.specs.Lines.{got}
 use Rattle.texts.specs.Plans.{Plan, reads as planReads}
 use Rattle.texts.specs.PlanTexts.{planOf}
 use Rattle.plan_calls.specs.Calls.{workWords, runCall}
 use Rattle.whole.specs.Runs.{planned, sessionAfter, answersOf, accepted, handed, stopped, outcome, Grouping, parts, logOf, grouped, roomFor, roomy}
+use Rattle.whole.specs.Counts.{Counts}
 use Rattle.whole.specs.Cuttings.{Cutting, cutParts, Follows, cutDistances, cutRoomy}
 
 -- a read's answer without its count of sums: a distance or cold, or its refusal
@@ -53,8 +55,8 @@ written (Refused n) = 0
 
 -- an answer that is a distance of at most c
 abbrev pub heldBy : ℕ → Answer → Bool
-heldBy c Cold = false
-heldBy c (Distance d n) = leb d c
+heldBy c Cold = within c cold
+heldBy c (Distance d n) = within c (at d)
 heldBy c (Refused n) = false
 
 -- what holds of every run over the log t
@@ -77,6 +79,8 @@ pub record Claims (t : List ℕ) : Type 0 where
       cutDistances c ≡ cond (cutRoomy c) (handed (map written (answersOf fresh t))) (stopped 6)
   -- in the cache of any size a read is a hit exactly where the uncut reading's answer is a distance of at most the size
   pub caches : (c : ℕ) → cacheHits c t ≡ map (heldBy c) (answersOf fresh t)
+  -- for every size the summary's words, the session and a watch fed with the answers tell that cache's misses and hit share
+  pub counts : (c : ℕ) → Counts c t
 
 -- of every list of read calls and every log within the limits
 pub record Claim : Type 0 where
@@ -84,5 +88,8 @@ pub record Claim : Type 0 where
   pub calls : (reads : List ℕ) → map seenOf (answersOf fresh reads) ≡ owed [] reads
   -- a refused read leaves no trace
   pub no-trace : (reads : List ℕ) → sessionAfter fresh reads ≡ sessionAfter fresh (accepted fresh reads)
+  -- the distance of an accepted read of a known extent is 1 plus the total of the sums on the way up from its slot, and the
+  -- sums read are how many these are: of every sound session
+  pub walks : Walks
   -- and the rest
   pub runs : (t : List ℕ) → Within t → Claims t

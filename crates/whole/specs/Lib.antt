@@ -1,3 +1,4 @@
 pub mod Runs
 pub mod Cuttings
+pub mod Counts
 pub mod Claim
