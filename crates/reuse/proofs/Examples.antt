@@ -1,12 +1,12 @@
--- Worked examples, computed from the definitions: the figures of 001, and the rows of 01 that need no session.
+-- Worked examples, computed from the definitions: the figures of 001, and words that are well formed or not.
 use mathlib.Core.Path.{_≡_, refl}
 use Prim.Native.Nat.{ℕ}
 use mathlib.Core.List.{List, [], _∷_}
 use mathlib.Core.Bool.{true, false}
-use Rattle.reuse.specs.Lists.{mem, allIn, distinct, remove, inside, outside, before, firsts, cleanup, from, sum, count}
+use Rattle.reuse.specs.Lists.{mem, allIn, distinct, remove, firsts, cleanup, from, sum, count}
 use Rattle.reuse.specs.Lru.{cold, at, depth, touch, reuses, since, distance, distances, countAt}
-use Rattle.reuse.specs.Cache.{lastRead, oldest, evict, admit, hits, cacheHits, cacheMisses}
-use Rattle.reuse.specs.Summary.{words, histogram, summaryOf, readsOf, extentsOf, firstOf, recentOf, countsOf, wellFormed, missesOf, joinedFirst, joinedRecent, shared, across, countFor, joinedCount, joinedCounts, joinOf}
+use Rattle.reuse.specs.Cache.{lastRead, oldest, evict, admit, hits, cacheHits}
+use Rattle.reuse.specs.Summary.{histogram, readsOf, extentsOf, firstOf, recentOf, countsOf, wellFormed}
 
 -- 001's trace a b b c b a d c a a
 abbrev trace : List ℕ
@@ -52,65 +52,7 @@ pub cleanup-example : cleanup (2 ∷ 3 ∷ 5 ∷ 4 ∷ 3 ∷ 5 ∷ 3 ∷ 8 ∷ 2
 unfolding cleanup mem
 cleanup-example = refl
 
--- the seven reads, cut after the fourth
-abbrev front : List ℕ
-front = 7 ∷ 3 ∷ 7 ∷ 9 ∷ []
-
--- the last three
-abbrev back : List ℕ
-back = 3 ∷ 3 ∷ 9 ∷ []
-
--- the whole
-abbrev seven : List ℕ
-seven = 7 ∷ 3 ∷ 7 ∷ 9 ∷ 3 ∷ 3 ∷ 9 ∷ []
-
--- their answers
-pub seven-distances : reuses [] seven ≡ cold ∷ cold ∷ at 2 ∷ cold ∷ at 3 ∷ at 1 ∷ at 2 ∷ []
-unfolding reuses depth touch remove
-seven-distances = refl
-
--- their summary
-pub seven-summary : summaryOf seven ≡ 7 ∷ 3 ∷ 7 ∷ 3 ∷ 9 ∷ 9 ∷ 3 ∷ 7 ∷ 1 ∷ 2 ∷ 1 ∷ []
-unfolding summaryOf words histogram firsts cleanup mem countAt count from reuses depth touch remove
-seven-summary = refl
-
--- the summary of the first four
-pub front-summary : summaryOf front ≡ 4 ∷ 3 ∷ 7 ∷ 3 ∷ 9 ∷ 9 ∷ 7 ∷ 3 ∷ 0 ∷ 1 ∷ 0 ∷ []
-unfolding summaryOf words histogram firsts cleanup mem countAt count from reuses depth touch remove
-front-summary = refl
-
--- the summary of the last three
-pub back-summary : summaryOf back ≡ 3 ∷ 2 ∷ 3 ∷ 9 ∷ 9 ∷ 3 ∷ 1 ∷ 0 ∷ []
-unfolding summaryOf words histogram firsts cleanup mem countAt count from reuses depth touch remove
-back-summary = refl
-
--- the join of those two
-pub seven-join : joinOf (4 ∷ 3 ∷ 7 ∷ 3 ∷ 9 ∷ 9 ∷ 7 ∷ 3 ∷ 0 ∷ 1 ∷ 0 ∷ []) (3 ∷ 2 ∷ 3 ∷ 9 ∷ 9 ∷ 3 ∷ 1 ∷ 0 ∷ []) ≡ 7 ∷ 3 ∷ 7 ∷ 3 ∷ 9 ∷ 9 ∷ 3 ∷ 7 ∷ 1 ∷ 2 ∷ 1 ∷ []
-unfolding joinOf words joinedFirst joinedRecent joinedCounts joinedCount countFor shared across readsOf extentsOf firstOf recentOf countsOf from before inside outside count firsts remove mem
-seven-join = refl
-
--- the join of two empty traces' summaries
-pub empty-join : joinOf (0 ∷ 0 ∷ []) (0 ∷ 0 ∷ []) ≡ 0 ∷ 0 ∷ []
-unfolding joinOf words joinedFirst joinedRecent joinedCounts joinedCount countFor shared across readsOf extentsOf firstOf recentOf countsOf from before inside outside count firsts remove mem
-empty-join = refl
-
--- 1 2 joined to 2 1
-pub turned-join : joinOf (summaryOf (1 ∷ 2 ∷ [])) (summaryOf (2 ∷ 1 ∷ [])) ≡ 4 ∷ 2 ∷ 1 ∷ 2 ∷ 1 ∷ 2 ∷ 1 ∷ 1 ∷ []
-unfolding joinOf words joinedFirst joinedRecent joinedCounts joinedCount countFor shared across readsOf extentsOf firstOf recentOf countsOf from before inside outside count firsts remove mem summaryOf histogram cleanup countAt reuses depth touch
-turned-join = refl
-
--- the misses of the seven reads from their summary, at 0, 2 and 9
-pub seven-misses : let w : List ℕ = 7 ∷ 3 ∷ 7 ∷ 3 ∷ 9 ∷ 9 ∷ 3 ∷ 7 ∷ 1 ∷ 2 ∷ 1 ∷ [] in
-    (missesOf w 0 ≡ 7) × (missesOf w 2 ≡ 4) × (missesOf w 9 ≡ 3)
-unfolding missesOf extentsOf countsOf sum
-seven-misses = (refl, refl, refl)
-
--- the same, of the cache
-pub seven-cache : (cacheMisses 0 seven ≡ 7) × (cacheMisses 2 seven ≡ 4) × (cacheMisses 9 seven ≡ 3)
-unfolding cacheMisses cacheHits count hits admit evict oldest lastRead mem remove
-seven-cache = (refl, refl, refl)
-
--- the summary is well formed
+-- the summary of 7 3 7 9 3 3 9 is well formed
 pub seven-formed : wellFormed (7 ∷ 3 ∷ 7 ∷ 3 ∷ 9 ∷ 9 ∷ 3 ∷ 7 ∷ 1 ∷ 2 ∷ 1 ∷ []) ≡ true
 unfolding wellFormed distinct allIn sum readsOf extentsOf firstOf recentOf countsOf mem
 seven-formed = refl

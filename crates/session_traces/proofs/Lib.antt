@@ -1,3 +1,2 @@
 pub mod Stands
 pub mod Read
-pub mod Examples

@@ -2,3 +2,4 @@ pub mod Runs
 pub mod Cuttings
 pub mod Counts
 pub mod Claim
+pub mod Table

@@ -1,0 +1,82 @@
+-- The rows that 01 marks with a star. Each has two halves: what the calls answer, and what the log's own definitions give.
+use Prim.Native.Nat.{ℕ}
+use mathlib.Core.Path.{_≡_}
+use mathlib.Core.List.{List, [], _∷_, _++_, map}
+use lib.ListN.{replicate}
+use Rattle.reuse.specs.Lru.{cold, at, reuses}
+use Rattle.reuse.specs.Cache.{cacheMisses}
+use Rattle.reuse.specs.Summary.{summaryOf, joinOf}
+use Rattle.summary_calls.specs.declared.MissCount.the-variants.{Misses}
+use Rattle.summary_calls.specs.declared.HitShare.the-variants.{NoReads}
+use Rattle.summary_calls.specs.declared.ShareAnswer.the-variants.{Answered}
+use Rattle.summary_calls.specs.Calls.{joinCall, missesCall, shareCall}
+use Rattle.session.specs.declared.Answer.the-variants.{Cold, Distance}
+use Rattle.session.specs.Sessions.{fresh}
+use Rattle.session.specs.Reads.{sumsRead}
+use Rattle.session_summary.specs.Summaries.{shareCall as sessionShare}
+use Rattle.whole.specs.Runs.{answersOf, handed, outcome, Grouping, part, joined, grouped}
+use Rattle.whole.specs.Counts.{cacheShare}
+
+-- the first four of the seven reads
+abbrev pub front : List ℕ
+front = 7 ∷ 3 ∷ 7 ∷ 9 ∷ []
+
+-- the last three
+abbrev pub back : List ℕ
+back = 3 ∷ 3 ∷ 9 ∷ []
+
+-- all seven
+abbrev pub seven : List ℕ
+seven = front ++ back
+
+-- the words of their summary, and of the parts'
+abbrev pub sevenWords : List ℕ
+sevenWords = 7 ∷ 3 ∷ 7 ∷ 3 ∷ 9 ∷ 9 ∷ 3 ∷ 7 ∷ 1 ∷ 2 ∷ 1 ∷ []
+
+abbrev pub frontWords : List ℕ
+frontWords = 4 ∷ 3 ∷ 7 ∷ 3 ∷ 9 ∷ 9 ∷ 7 ∷ 3 ∷ 0 ∷ 1 ∷ 0 ∷ []
+
+abbrev pub backWords : List ℕ
+backWords = 3 ∷ 2 ∷ 3 ∷ 9 ∷ 9 ∷ 3 ∷ 1 ∷ 0 ∷ []
+
+-- the summary of 1 2 2 1: H 1 1
+abbrev pub turnedWords : List ℕ
+turnedWords = 4 ∷ 2 ∷ 1 ∷ 2 ∷ 1 ∷ 2 ∷ 1 ∷ 1 ∷ []
+
+-- a part by its reads, its summary in a lent buffer of 20 words
+abbrev pub partOf : List ℕ → Grouping
+partOf reads = part reads (replicate 20 5)
+
+-- two parts joined in such a buffer
+abbrev pub bothOf : List ℕ → List ℕ → Grouping
+bothOf a b = joined (partOf a) (partOf b) (replicate 20 5)
+
+pub record Table : Type 0 where
+  -- 7 3 7 9 3 3 9: cold cold 2 cold 3 1 2; sums read 0 0 9 0 8 8 7
+  pub reads-called : answersOf fresh seven ≡ Cold ∷ Cold ∷ Distance 2 9 ∷ Cold ∷ Distance 3 8 ∷ Distance 1 8 ∷ Distance 2 7 ∷ []
+  pub sums-called : map sumsRead (answersOf fresh seven) ≡ 0 ∷ 0 ∷ 9 ∷ 0 ∷ 8 ∷ 8 ∷ 7 ∷ []
+  pub reads-defined : reuses [] seven ≡ cold ∷ cold ∷ at 2 ∷ cold ∷ at 3 ∷ at 1 ∷ at 2 ∷ []
+  -- its summary: 7 3, F 7 3 9, R 9 3 7, H 1 2 1
+  pub summary-called : grouped (partOf seven) ≡ handed sevenWords
+  pub summary-defined : summaryOf seven ≡ sevenWords
+  -- the summary of 7 3 7 9: 4 3, F 7 3 9, R 9 7 3, H 0 1 0
+  pub front-called : grouped (partOf front) ≡ handed frontWords
+  pub front-defined : summaryOf front ≡ frontWords
+  -- the summary of 3 3 9: 3 2, F 3 9, R 9 3, H 1 0
+  pub back-called : grouped (partOf back) ≡ handed backWords
+  pub back-defined : summaryOf back ≡ backWords
+  -- the join of those two: the seven-read summary
+  pub join-called : grouped (bothOf front back) ≡ handed sevenWords
+  pub join-defined : joinOf frontWords backWords ≡ sevenWords
+  -- the join of 0 0 and 0 0: 0 0
+  pub empty-called : outcome (joinCall (0 ∷ 0 ∷ []) (0 ∷ 0 ∷ []) (replicate 20 5)) ≡ handed (0 ∷ 0 ∷ [])
+  pub empty-defined : (joinOf (0 ∷ 0 ∷ []) (0 ∷ 0 ∷ []) ≡ 0 ∷ 0 ∷ []) × (summaryOf [] ≡ 0 ∷ 0 ∷ [])
+  -- misses of the seven reads at 0, 2, 9: 7, 4, 3
+  pub misses-called : (missesCall sevenWords 0 ≡ Misses 7) × (missesCall sevenWords 2 ≡ Misses 4) × (missesCall sevenWords 9 ≡ Misses 3)
+  pub misses-defined : (cacheMisses 0 seven ≡ 7) × (cacheMisses 2 seven ≡ 4) × (cacheMisses 9 seven ≡ 3)
+  -- 1 2 joined to 2 1: H 1 1
+  pub turned-called : grouped (bothOf (1 ∷ 2 ∷ []) (2 ∷ 1 ∷ [])) ≡ handed turnedWords
+  pub turned-defined : (joinOf (summaryOf (1 ∷ 2 ∷ [])) (summaryOf (2 ∷ 1 ∷ [])) ≡ turnedWords) × (summaryOf (1 ∷ 2 ∷ 2 ∷ 1 ∷ []) ≡ turnedWords)
+  -- the share of an empty log: 'no reads', at every size
+  pub share-called : (c : ℕ) → (shareCall (0 ∷ 0 ∷ []) c ≡ Answered NoReads) × (sessionShare fresh c ≡ Answered NoReads)
+  pub share-defined : (c : ℕ) → cacheShare c [] ≡ Answered NoReads
