@@ -20,11 +20,11 @@ use Rattle.session.specs.Sessions.{fresh}
 use Rattle.session.specs.Reads.{roomed, stepAt, readOf}
 use Rattle.session_traces.proofs.Stands.{Stands, fresh-stands}
 use Rattle.session_traces.proofs.Read.{over, read-full, read-many, read-taken, read-stands}
-use Rattle.whole.specs.Runs.{sessionAfter, answersOf, keep, accepted}
-use Rattle.whole.specs.Claim.{Seen, seen, declined, seenOf}
+use Rattle.whole.specs.Runs.{gives, refused, sessionAfter, answersOf, keep, accepted}
+use Rattle.whole.specs.Claim.{Seen, seenOf}
 
 -- a step's answer shows the depth
-seen-step : (s : Session) (x : ℕ) (r : Reuse) → seenOf (stepAt s x r .answer) ≡ seen r
+seen-step : (s : Session) (x : ℕ) (r : Reuse) → seenOf (stepAt s x r .answer) ≡ gives r
 seen-step s x cold = refl
 seen-step s x (at d) = refl
 
@@ -38,8 +38,8 @@ unfoldable pub tested : List ℕ → List ℕ → List Seen
 tested t [] = []
 tested t (x ∷ xs) =
     cond (eqb (length t) maxReads)
-    (declined 8 ∷ tested t xs)
-    (cond (over t x) (declined 9 ∷ tested t xs) (seen (distance t x) ∷ tested (t ++ (x ∷ [])) xs))
+    (refused 8 ∷ tested t xs)
+    (cond (over t x) (refused 9 ∷ tested t xs) (gives (distance t x) ∷ tested (t ++ (x ∷ [])) xs))
 
 -- what each of a list of calls must answer
 pub calls-answer : (calls : List ℕ) (s : Session) (t : List ℕ) → Stands s t → map seenOf (answersOf s calls) ≡ tested t calls
@@ -51,13 +51,13 @@ calls-answer (x ∷ xs) s t g = by (eqb (length t) maxReads) refl (over t x) ref
     by : (c : Bool) → eqb (length t) maxReads ≡ c → (d : Bool) → over t x ≡ d
         → ((s′ : Session) (t′ : List ℕ) → Stands s′ t′ → map seenOf (answersOf s′ xs) ≡ tested t′ xs)
         → seenOf (readOf s x .answer) ∷ map seenOf (answersOf (readOf s x .session) xs)
-        ≡ cond c (declined 8 ∷ tested t xs) (cond d (declined 9 ∷ tested t xs) (seen (distance t x) ∷ tested (t ++ (x ∷ [])) xs))
-    by true e d f ih = rw (read-full s t g x e) (ap {B = List Seen} (λ l. declined 8 ∷ l) (ih s t g))
-    by false e true f ih = rw (read-many s t g x e f) (ap {B = List Seen} (λ l. declined 9 ∷ l) (ih s t g))
+        ≡ cond c (refused 8 ∷ tested t xs) (cond d (refused 9 ∷ tested t xs) (gives (distance t x) ∷ tested (t ++ (x ∷ [])) xs))
+    by true e d f ih = rw (read-full s t g x e) (ap {B = List Seen} (λ l. refused 8 ∷ l) (ih s t g))
+    by false e true f ih = rw (read-many s t g x e f) (ap {B = List Seen} (λ l. refused 9 ∷ l) (ih s t g))
     by false e false f ih =
         ap {B = List Seen} (λ a. a ∷ map seenOf (answersOf (readOf s x .session) xs))
-        (ap (λ (r : Step). seenOf (r .answer)) (read-taken s t g x e f) ∙ seen-step (roomed s) x (depth (stack t) x) ∙ ap seen (distance-law t x))
-        ∙ ap {B = List Seen} (λ l. seen (distance t x) ∷ l) (ih (readOf s x .session) (t ++ (x ∷ [])) (read-stands s t g x e f))
+        (ap (λ (r : Step). seenOf (r .answer)) (read-taken s t g x e f) ∙ seen-step (roomed s) x (depth (stack t) x) ∙ ap gives (distance-law t x))
+        ∙ ap {B = List Seen} (λ l. gives (distance t x) ∷ l) (ih (readOf s x .session) (t ++ (x ∷ [])) (read-stands s t g x e f))
 
 -- a read call is refused exactly under the condition of 8, or else of 9
 pub calls : (reads : List ℕ) → map seenOf (answersOf fresh reads) ≡ tested [] reads
@@ -124,16 +124,16 @@ pub trace-stands : (t : List ℕ) → Within t → Stands (sessionAfter fresh t)
 trace-stands t w = rw (all-accepted t fresh [] fresh-stands w) at (calls-stand t fresh [] fresh-stands)
 
 -- within the limits the calls answer the LRU stack's distances
-pub tested-within : (u t : List ℕ) → Within (t ++ u) → tested t u ≡ map seen (reuses (stack t) u)
+pub tested-within : (u t : List ℕ) → Within (t ++ u) → tested t u ≡ map gives (reuses (stack t) u)
 unfolding tested reuses touch
 tested-within [] t w = refl
 tested-within (x ∷ u) t w =
     let h = tested-within u (t ++ (x ∷ [])) (rw append-assoc w) in
     rw (within-reads t u x w, within-extents t u x w)
-    (ap {B = List Seen} (λ a. a ∷ tested (t ++ (x ∷ [])) u) (ap seen (sym (distance-law t x)))
-    ∙ ap {B = List Seen} (λ l. seen (depth (stack t) x) ∷ l) (h ∙ ap (λ (l : List ℕ). map seen (reuses l u)) (stack-snoc t x)))
+    (ap {B = List Seen} (λ a. a ∷ tested (t ++ (x ∷ [])) u) (ap gives (sym (distance-law t x)))
+    ∙ ap {B = List Seen} (λ l. gives (depth (stack t) x) ∷ l) (h ∙ ap (λ (l : List ℕ). map gives (reuses l u)) (stack-snoc t x)))
 
 -- so does the uncut reading
-pub uncut : (t : List ℕ) → Within t → map seenOf (answersOf fresh t) ≡ map seen (reuses [] t)
+pub uncut : (t : List ℕ) → Within t → map seenOf (answersOf fresh t) ≡ map gives (reuses [] t)
 unfolding stack
 uncut t w = calls t ∙ tested-within t [] w

@@ -20,16 +20,16 @@ use Rattle.session_summary.proofs.Summaries.{misses-cache, share-trace}
 use Rattle.watch.specs.declared.Watch.{Watch}
 use Rattle.watch.specs.Watching.{newOf, notedOf, readingOf, watchAfter, missesCall as watchMisses, shareCall as watchShare}
 use Rattle.watch.proofs.Watches.{watch-trace, watch-misses, watch-share}
-use Rattle.whole.specs.Runs.{sessionAfter, answersOf}
+use Rattle.whole.specs.Runs.{gives, refused, sessionAfter, answersOf}
 use Rattle.whole.specs.Counts.{watching, cacheShare, Counts}
-use Rattle.whole.specs.Claim.{Seen, seen, declined, seenOf}
+use Rattle.whole.specs.Claim.{Seen, seenOf}
 use Rattle.whole.proofs.Calls.{trace-stands, uncut}
 
 -- a watch after what was seen
 unfoldable saw : Watch → List Seen → Watch
 saw w [] = w
-saw w (seen r ∷ l) = saw (notedOf w (readingOf r) .watch) l
-saw w (declined n ∷ l) = saw w l
+saw w (gives r ∷ l) = saw (notedOf w (readingOf r) .watch) l
+saw w (refused n ∷ l) = saw w l
 
 -- a watch that hears a session's answers hears what is seen of them
 hears-seen : (l : List Answer) (w : Watch) → watching w l ≡ saw w (map seenOf l)
@@ -40,7 +40,7 @@ hears-seen (Distance d n ∷ l) w = hears-seen l _
 hears-seen (Refused n ∷ l) w = hears-seen l w
 
 -- what is seen of a trace's answers
-saw-trace : (rs : List Reuse) (w : Watch) → saw w (map seen rs) ≡ watchAfter w rs
+saw-trace : (rs : List Reuse) (w : Watch) → saw w (map gives rs) ≡ watchAfter w rs
 unfolding watchAfter saw
 saw-trace [] w = refl
 saw-trace (r ∷ rs) w = saw-trace rs _

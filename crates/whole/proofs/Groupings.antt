@@ -18,7 +18,7 @@ use Rattle.session.specs.Sessions.{fresh}
 use Rattle.session_summary.specs.Summaries.{summaryCall}
 use Rattle.session_traces.proofs.Stands.{Stands, fresh-stands}
 use Rattle.session_summary.proofs.Summaries.{summary-trace}
-use Rattle.whole.specs.Runs.{sessionAfter, accepted, handed, stopped, outcome, Grouping, part, joined, parts, logOf, joinedWith, grouped, roomFor, roomy}
+use Rattle.whole.specs.Runs.{sessionAfter, accepted, gives, refused, outcome, Grouping, part, joined, parts, logOf, joinedWith, grouped, roomFor, roomy}
 use Rattle.whole.proofs.Calls.{calls-stand}
 
 -- the log of some parts and then others
@@ -33,25 +33,25 @@ unfolding logOf
 log-one calls = append-nil (accepted fresh calls)
 
 -- what is handed over after words are written, or 6
-pub outcome-wrote : (w buffer : List ℕ) → outcome (wrote w buffer) ≡ cond (leb (length w) (length buffer)) (handed w) (stopped 6)
+pub outcome-wrote : (w buffer : List ℕ) → outcome (wrote w buffer) ≡ cond (leb (length w) (length buffer)) (gives w) (refused 6)
 unfolding wrote
 outcome-wrote w buffer =
     by-test (leb (length w) (length buffer))
-    (λ e. simp e (ap handed (take-append-seam w (drop (length w) buffer))))
+    (λ e. simp e (ap gives (take-append-seam w (drop (length w) buffer))))
     (λ e. simp e)
 
 -- a log's summary written, or 6
-pub outcome-summary : (t buffer : List ℕ) → outcome (wrote (summaryOf t) buffer) ≡ cond (roomFor t buffer) (handed (summaryOf t)) (stopped 6)
+pub outcome-summary : (t buffer : List ℕ) → outcome (wrote (summaryOf t) buffer) ≡ cond (roomFor t buffer) (gives (summaryOf t)) (refused 6)
 outcome-summary t buffer =
     outcome-wrote (summaryOf t) buffer
-    ∙ ap (λ (n : ℕ). cond (leb n (length buffer)) (handed (summaryOf t)) (stopped 6)) (length-summary t)
+    ∙ ap (λ (n : ℕ). cond (leb n (length buffer)) (gives (summaryOf t)) (refused 6)) (length-summary t)
 
 -- the summary of a session that stands for a log
-pub session-outcome : (s : Session) (t buffer : List ℕ) → Stands s t → outcome (summaryCall s buffer) ≡ cond (roomFor t buffer) (handed (summaryOf t)) (stopped 6)
+pub session-outcome : (s : Session) (t buffer : List ℕ) → Stands s t → outcome (summaryCall s buffer) ≡ cond (roomFor t buffer) (gives (summaryOf t)) (refused 6)
 session-outcome s t buffer g = ap outcome (summary-trace s t buffer g) ∙ outcome-summary t buffer
 
 -- a grouping hands over its log's summary; a call of it is refused with 6 alone
-pub grouping-outcome : (g : Grouping) → Within (logOf (parts g)) → grouped g ≡ cond (roomy g) (handed (summaryOf (logOf (parts g)))) (stopped 6)
+pub grouping-outcome : (g : Grouping) → Within (logOf (parts g)) → grouped g ≡ cond (roomy g) (gives (summaryOf (logOf (parts g)))) (refused 6)
 unfolding grouped parts roomy
 grouping-outcome (part calls buffer) w =
     session-outcome (sessionAfter fresh calls) (accepted fresh calls) buffer (calls-stand calls fresh [] fresh-stands)
@@ -76,10 +76,10 @@ grouping-outcome (joined g h buffer) w = by (roomy g) (roomy h) (grouping-outcom
 
     -- by the room of each
     by : (b c : Bool)
-        → grouped g ≡ cond b (handed (summaryOf (logOf (parts g)))) (stopped 6)
-        → grouped h ≡ cond c (handed (summaryOf (logOf (parts h)))) (stopped 6)
+        → grouped g ≡ cond b (gives (summaryOf (logOf (parts g)))) (refused 6)
+        → grouped h ≡ cond c (gives (summaryOf (logOf (parts h)))) (refused 6)
         → joinedWith (grouped g) (grouped h) buffer
-        ≡ cond (b && c && roomFor (logOf (parts g ++ parts h)) buffer) (handed (summaryOf (logOf (parts g ++ parts h)))) (stopped 6)
+        ≡ cond (b && c && roomFor (logOf (parts g ++ parts h)) buffer) (gives (summaryOf (logOf (parts g ++ parts h)))) (refused 6)
     by true true e f =
         rw (e, f, ends)
         (ap outcome (join-trace (logOf (parts g)) (logOf (parts h)) buffer both) ∙ outcome-summary (logOf (parts g) ++ logOf (parts h)) buffer)

@@ -15,21 +15,21 @@ use Rattle.texts.specs.Plans.{Plan, reads}
 use Rattle.texts.specs.PlanTexts.{planOf}
 use Rattle.plan_calls.specs.Calls.{workWords, fronted, carriedOut, runCall}
 use Rattle.plan_calls.proofs.Carrying.{by-room}
-use Rattle.whole.specs.Runs.{planned, handed, stopped, roomFor}
+use Rattle.whole.specs.Runs.{planned, gives, refused, roomFor}
 
 module _ (t : List ℕ) (p : Plan) (work out : List ℕ) where
   -- a plan carried out, by whether there is room
-  carried : planned (carriedOut p t work out) ≡ cond (leb (workWords p) (length work) && leb (length (summaryOf t)) (length out)) (handed (summaryOf t)) (stopped 6)
+  carried : planned (carriedOut p t work out) ≡ cond (leb (workWords p) (length work) && leb (length (summaryOf t)) (length out)) (gives (summaryOf t)) (refused 6)
   unfolding carriedOut fronted
   carried =
       by-test (leb (workWords p) (length work) && leb (length (summaryOf t)) (length out))
-      (λ e. simp e (ap handed (take-append-seam (summaryOf t) (drop (length (summaryOf t)) out))))
+      (λ e. simp e (ap gives (take-append-seam (summaryOf t) (drop (length (summaryOf t)) out))))
       (λ e. simp e)
 
 -- a plan accepted on a log within the limits
 pub plan-outcome : (t : List ℕ) → Within t → (text : List ℕ) (p : Plan) → planOf text ≡ got p → reads p ≡ length t → (work out : List ℕ)
-    → planned (runCall text t work out) ≡ cond (leb (workWords p) (length work) && roomFor t out) (handed (summaryOf t)) (stopped 6)
+    → planned (runCall text t work out) ≡ cond (leb (workWords p) (length work) && roomFor t out) (gives (summaryOf t)) (refused 6)
 plan-outcome t w text p is covers work out =
     ap planned (by-room text t work out p is covers w)
     ∙ carried t p work out
-    ∙ ap (λ (n : ℕ). cond (leb (workWords p) (length work) && leb n (length out)) (handed (summaryOf t)) (stopped 6)) (length-summary t)
+    ∙ ap (λ (n : ℕ). cond (leb (workWords p) (length work) && leb n (length out)) (gives (summaryOf t)) (refused 6)) (length-summary t)

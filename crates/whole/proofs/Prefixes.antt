@@ -23,7 +23,7 @@ use Rattle.reuse.proofs.Traces.{within-front}
 use Rattle.summary_calls.specs.Calls.{wrote}
 use Rattle.session.specs.Sessions.{fresh}
 use Rattle.after.specs.Calls.{wordOf, afterCall}
-use Rattle.whole.specs.Runs.{accepted, handed, stopped, outcome, Grouping, parts, logOf, grouped, roomy}
+use Rattle.whole.specs.Runs.{accepted, gives, refused, outcome, Grouping, parts, logOf, grouped, roomy}
 use Rattle.whole.specs.Cuttings.{Cutting, only, andThen, cutParts, Follows, after, endToEnd, cutDistances, cutRoomy}
 use Rattle.whole.proofs.Groupings.{log-append, log-one, outcome-wrote, grouping-outcome}
 
@@ -58,13 +58,13 @@ after-trace a b buffer w =
 
 -- what it hands over
 pub after-outcome : (a b buffer : List ℕ) → Within (a ++ b)
-    → after (handed (summaryOf a)) b buffer
-    ≡ cond (leb (length b) (length buffer)) (handed (map wordOf (reuses (recentOf (summaryOf a)) b))) (stopped 6)
+    → after (gives (summaryOf a)) b buffer
+    ≡ cond (leb (length b) (length buffer)) (gives (map wordOf (reuses (recentOf (summaryOf a)) b))) (refused 6)
 after-outcome a b buffer w =
     let answer : List ℕ = map wordOf (reuses (recentOf (summaryOf a)) b) in
     let long : length answer ≡ length b = simp (length-map, length-reuses) in
     ap outcome (after-trace a b buffer w) ∙ outcome-wrote answer buffer
-    ∙ ap (λ (n : ℕ). cond (leb n (length buffer)) (handed answer) (stopped 6)) long
+    ∙ ap (λ (n : ℕ). cond (leb n (length buffer)) (gives answer) (refused 6)) long
 
 -- the words of a trace and then a part, by R of the trace
 pub words-law : (a b : List ℕ) → map wordOf (reuses [] a) ++ map wordOf (reuses (recentOf (summaryOf a)) b) ≡ map wordOf (reuses [] (a ++ b))
@@ -72,26 +72,26 @@ words-law a b = sym (ap (map wordOf) (part-law a b) ∙ map-append wordOf (reuse
 
 -- the first part, after 0 0
 pub first-outcome : (t buffer : List ℕ) → Within t
-    → after (handed (0 ∷ 0 ∷ [])) t buffer ≡ cond (leb (length t) (length buffer)) (handed (map wordOf (reuses [] t))) (stopped 6)
+    → after (gives (0 ∷ 0 ∷ [])) t buffer ≡ cond (leb (length t) (length buffer)) (gives (map wordOf (reuses [] t))) (refused 6)
 unfolding reuses
 first-outcome t buffer w = rw (← empty-summary) (after-outcome [] t buffer w ∙ rw (words-law [] t))
 
 -- a part after a grouping of all the parts before it
 pub later-outcome : (g : Grouping) (b buffer : List ℕ) → Within (logOf (parts g) ++ b)
     → after (grouped g) b buffer
-    ≡ cond (roomy g && leb (length b) (length buffer)) (handed (map wordOf (reuses (recentOf (summaryOf (logOf (parts g)))) b))) (stopped 6)
+    ≡ cond (roomy g && leb (length b) (length buffer)) (gives (map wordOf (reuses (recentOf (summaryOf (logOf (parts g)))) b))) (refused 6)
 later-outcome g b buffer w = rw (grouping-outcome g (within-front (logOf (parts g)) b w)) (by (roomy g))
   where
     -- by the room of the grouping
     by : (c : Bool)
-        → after (cond c (handed (summaryOf (logOf (parts g)))) (stopped 6)) b buffer
-        ≡ cond (c && leb (length b) (length buffer)) (handed (map wordOf (reuses (recentOf (summaryOf (logOf (parts g)))) b))) (stopped 6)
+        → after (cond c (gives (summaryOf (logOf (parts g)))) (refused 6)) b buffer
+        ≡ cond (c && leb (length b) (length buffer)) (gives (map wordOf (reuses (recentOf (summaryOf (logOf (parts g)))) b))) (refused 6)
     by true = after-outcome (logOf (parts g)) b buffer w
     by false = refl
 
 -- the distances of a cutting, end to end, are its trace's; a call of it is refused with 6 alone
 pub cutting-outcome : (c : Cutting) → Follows c → Within (logOf (cutParts c))
-    → cutDistances c ≡ cond (cutRoomy c) (handed (map wordOf (reuses [] (logOf (cutParts c))))) (stopped 6)
+    → cutDistances c ≡ cond (cutRoomy c) (gives (map wordOf (reuses [] (logOf (cutParts c))))) (refused 6)
 unfolding cutDistances cutRoomy cutParts Follows
 cutting-outcome (only calls buffer) p w = rw (log-one calls) (first-outcome (accepted fresh calls) buffer (rw (log-one calls) at w))
 cutting-outcome (andThen c g calls buffer) p w = by (cutRoomy c) (roomy g) (leb (length b) (length buffer)) (cutting-outcome c (p .0) front) later
@@ -117,16 +117,16 @@ cutting-outcome (andThen c g calls buffer) p w = by (cutRoomy c) (roomy g) (leb 
     front = within-front a b both
 
     -- the part after its prefix
-    later : after (grouped g) b buffer ≡ cond (roomy g && leb (length b) (length buffer)) (handed (map wordOf (reuses (recentOf (summaryOf a)) b))) (stopped 6)
+    later : after (grouped g) b buffer ≡ cond (roomy g && leb (length b) (length buffer)) (gives (map wordOf (reuses (recentOf (summaryOf a)) b))) (refused 6)
     later = rw (p .1) at (later-outcome g b buffer (rw (p .1) both))
 
     -- by the room of each
     by : (d e f : Bool)
-        → cutDistances c ≡ cond d (handed (map wordOf (reuses [] a))) (stopped 6)
-        → after (grouped g) b buffer ≡ cond (e && f) (handed (map wordOf (reuses (recentOf (summaryOf a)) b))) (stopped 6)
+        → cutDistances c ≡ cond d (gives (map wordOf (reuses [] a))) (refused 6)
+        → after (grouped g) b buffer ≡ cond (e && f) (gives (map wordOf (reuses (recentOf (summaryOf a)) b))) (refused 6)
         → endToEnd (cutDistances c) (after (grouped g) b buffer)
-        ≡ cond (d && (e && f)) (handed (map wordOf (reuses [] (logOf (cutParts c ++ (calls ∷ [])))))) (stopped 6)
-    by true true true h k = rw (h, k, ends) (ap handed (words-law a b))
+        ≡ cond (d && (e && f)) (gives (map wordOf (reuses [] (logOf (cutParts c ++ (calls ∷ [])))))) (refused 6)
+    by true true true h k = rw (h, k, ends) (ap gives (words-law a b))
     by true true false h k = rw (h, k)
     by true false f h k = rw (h, k)
     by false e f h k = rw h

@@ -18,8 +18,8 @@ use Rattle.session.specs.Sessions.{fresh}
 use Rattle.session.specs.Reads.{roomed, readOf}
 use Rattle.session_traces.proofs.Stands.{Stands, fresh-stands}
 use Rattle.session_traces.proofs.Read.{over, read-full, read-many, read-taken, read-stands}
-use Rattle.whole.specs.Runs.{sessionAfter, answersOf, keep, accepted}
-use Rattle.whole.specs.Claim.{seen, declined, seenOf, owed}
+use Rattle.whole.specs.Runs.{gives, refused, sessionAfter, answersOf, keep, accepted}
+use Rattle.whole.specs.Claim.{seenOf, owed}
 use Rattle.whole.proofs.Calls.{keep-step, tested, calls}
 
 -- a test that is one number past the limit
@@ -61,8 +61,8 @@ tested-owed (x ∷ xs) t w =
     -- by the two conditions
     by : (c : Bool) → ltb maxReads (length (t ++ (x ∷ []))) ≡ c → (d : Bool) → ltb maxExtents (length (firsts (t ++ (x ∷ [])))) ≡ d
         → tested t xs ≡ owed t xs → (Within (t ++ (x ∷ [])) → tested (t ++ (x ∷ [])) xs ≡ owed (t ++ (x ∷ [])) xs)
-        → cond c (declined 8 ∷ tested t xs) (cond d (declined 9 ∷ tested t xs) (seen (distance t x) ∷ tested (t ++ (x ∷ [])) xs))
-        ≡ cond c (declined 8 ∷ owed t xs) (cond d (declined 9 ∷ owed t xs) (seen (distance t x) ∷ owed (t ++ (x ∷ [])) xs))
+        → cond c (refused 8 ∷ tested t xs) (cond d (refused 9 ∷ tested t xs) (gives (distance t x) ∷ tested (t ++ (x ∷ [])) xs))
+        ≡ cond c (refused 8 ∷ owed t xs) (cond d (refused 9 ∷ owed t xs) (gives (distance t x) ∷ owed (t ++ (x ∷ [])) xs))
     by true e d f h k = rw h
     by false e true f h k = rw h
     by false e false f h k = rw (k (within-more t x e f))

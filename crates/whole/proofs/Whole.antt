@@ -14,9 +14,9 @@ use Rattle.session.specs.Sessions.{fresh}
 use Rattle.session_traces.proofs.Stands.{fresh-stands}
 use Rattle.session_traces.proofs.Read.{walks}
 use Rattle.after.specs.Calls.{wordOf}
-use Rattle.whole.specs.Runs.{answersOf, sessionAfter, handed, stopped, Grouping, parts, logOf, grouped, roomy}
+use Rattle.whole.specs.Runs.{answersOf, sessionAfter, gives, refused, Grouping, parts, logOf, grouped, roomy}
 use Rattle.whole.specs.Cuttings.{Cutting, cutParts, Follows, cutDistances, cutRoomy}
-use Rattle.whole.specs.Claim.{Seen, seen, declined, seenOf, written, heldBy, Claims, Claim}
+use Rattle.whole.specs.Claim.{Seen, seenOf, written, heldBy, Claims, Claim}
 use Rattle.whole.proofs.Calls.{all-accepted, trace-stands, uncut}
 use Rattle.whole.proofs.Refusals.{calls-owed, no-trace}
 use Rattle.whole.proofs.Groupings.{session-outcome, grouping-outcome}
@@ -26,8 +26,8 @@ use Rattle.whole.proofs.Counts.{counts}
 
 -- a cache of this size holds the extent, by what was seen
 abbrev held : ℕ → Seen → Bool
-held size (seen r) = within size r
-held size (declined n) = false
+held size (gives r) = within size r
+held size (refused n) = false
 
 -- what was seen of an answer tells whether the cache holds the extent
 held-seen : (size : ℕ) (a : Answer) → held size (seenOf a) ≡ heldBy size a
@@ -44,18 +44,18 @@ held-answers size (a ∷ l) = rw (held-answers size l, held-seen size a)
 pub caches : (t : List ℕ) → Within t → (size : ℕ) → cacheHits size t ≡ map (heldBy size) (answersOf fresh t)
 caches t w size =
     cache-law size t
-    ∙ sym (map-map (held size) seen (reuses [] t))
+    ∙ sym (map-map (held size) gives (reuses [] t))
     ∙ ap (map (held size)) (sym (uncut t w))
     ∙ held-answers size (answersOf fresh t)
 
 -- every grouping of every cutting of t
-pub groupings : (t : List ℕ) → Within t → (g : Grouping) → logOf (parts g) ≡ t → grouped g ≡ cond (roomy g) (handed (summaryOf t)) (stopped 6)
+pub groupings : (t : List ℕ) → Within t → (g : Grouping) → logOf (parts g) ≡ t → grouped g ≡ cond (roomy g) (gives (summaryOf t)) (refused 6)
 groupings t w g e = rw e at (grouping-outcome g (rw e w))
 
 -- what was seen, as the buffer writes it
 abbrev saw : Seen → ℕ
-saw (seen r) = wordOf r
-saw (declined n) = 0
+saw (gives r) = wordOf r
+saw (refused n) = 0
 
 -- so of a list of answers
 saw-seen : (l : List Answer) → map saw (map seenOf l) ≡ map written l
@@ -66,14 +66,14 @@ saw-seen (Refused n ∷ l) = ap {B = List ℕ} (λ r. 0 ∷ r) (saw-seen l)
 
 -- the uncut reading's answers as the buffer writes them
 pub uncut-words : (t : List ℕ) → Within t → map written (answersOf fresh t) ≡ map wordOf (reuses [] t)
-uncut-words t w = sym (saw-seen (answersOf fresh t)) ∙ ap (map saw) (uncut t w) ∙ map-map saw seen (reuses [] t)
+uncut-words t w = sym (saw-seen (answersOf fresh t)) ∙ ap (map saw) (uncut t w) ∙ map-map saw gives (reuses [] t)
 
 -- every cutting of t with its distances
 pub distances : (t : List ℕ) → Within t → (c : Cutting) → Follows c → logOf (cutParts c) ≡ t
-    → cutDistances c ≡ cond (cutRoomy c) (handed (map written (answersOf fresh t))) (stopped 6)
+    → cutDistances c ≡ cond (cutRoomy c) (gives (map written (answersOf fresh t))) (refused 6)
 distances t w c p e =
     (rw e at (cutting-outcome c p (rw e w)))
-    ∙ ap (λ (l : List ℕ). cond (cutRoomy c) (handed l) (stopped 6)) (sym (uncut-words t w))
+    ∙ ap (λ (l : List ℕ). cond (cutRoomy c) (gives l) (refused 6)) (sym (uncut-words t w))
 
 -- what holds of every run over a trace within the limits
 pub runs : (t : List ℕ) → Within t → Claims t

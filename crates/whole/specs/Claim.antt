@@ -21,20 +21,19 @@ use Rattle.texts.specs.Lines.{got}
 use Rattle.texts.specs.Plans.{Plan, reads as planReads}
 use Rattle.texts.specs.PlanTexts.{planOf}
 use Rattle.plan_calls.specs.Calls.{workWords, runCall}
-use Rattle.whole.specs.Runs.{planned, sessionAfter, answersOf, accepted, handed, stopped, outcome, Grouping, parts, logOf, grouped, roomFor, roomy}
+use Rattle.whole.specs.Runs.{planned, sessionAfter, answersOf, accepted, Reply, gives, refused, outcome, Grouping, parts, logOf, grouped, roomFor, roomy}
 use Rattle.whole.specs.Counts.{Counts}
 use Rattle.whole.specs.Cuttings.{Cutting, cutParts, Follows, cutDistances, cutRoomy}
 
 -- a read's answer without its count of sums: a distance or cold, or its refusal
-pub data Seen : Type 0 where
-  seen : Reuse → Seen
-  declined : ℕ → Seen
+abbrev pub Seen : Type 0
+Seen = Reply Reuse
 
 -- of an answer
 abbrev pub seenOf : Answer → Seen
-seenOf Cold = seen cold
-seenOf (Distance d n) = seen (at d)
-seenOf (Refused n) = declined n
+seenOf Cold = gives cold
+seenOf (Distance d n) = gives (at d)
+seenOf (Refused n) = refused n
 
 -- what each of a list of read calls must answer, t being the reads accepted before: 8 where more reads than the
 -- limit would result, else 9 where more extents would, else the distance counted on the log
@@ -42,10 +41,10 @@ unfoldable pub owed : List ℕ → List ℕ → List Seen
 owed t [] = []
 owed t (x ∷ xs) =
     cond (ltb maxReads (length (t ++ (x ∷ []))))
-    (declined 8 ∷ owed t xs)
+    (refused 8 ∷ owed t xs)
     (cond (ltb maxExtents (length (firsts (t ++ (x ∷ [])))))
-    (declined 9 ∷ owed t xs)
-    (seen (distance t x) ∷ owed (t ++ (x ∷ [])) xs))
+    (refused 9 ∷ owed t xs)
+    (gives (distance t x) ∷ owed (t ++ (x ∷ [])) xs))
 
 -- an answer as the distance buffer writes it; a refusal, which none is here, as 0
 abbrev pub written : Answer → ℕ
@@ -64,19 +63,19 @@ pub record Claims (t : List ℕ) : Type 0 where
   -- the uncut reading refuses no read
   pub accepts : accepted fresh t ≡ t
   -- and answers the LRU stack's distances
-  pub uncut : map seenOf (answersOf fresh t) ≡ map seen (reuses [] t)
+  pub uncut : map seenOf (answersOf fresh t) ≡ map gives (reuses [] t)
   -- its summary is the log's
   pub uncut-summary : (buffer : List ℕ) →
-      outcome (summaryCall (sessionAfter fresh t) buffer) ≡ cond (roomFor t buffer) (handed (summaryOf t)) (stopped 6)
+      outcome (summaryCall (sessionAfter fresh t) buffer) ≡ cond (roomFor t buffer) (gives (summaryOf t)) (refused 6)
   -- every grouping of every cutting hands over the same words; a call is refused with 6 alone, where its buffer is too short
   pub groupings : (g : Grouping) → logOf (parts g) ≡ t →
-      grouped g ≡ cond (roomy g) (handed (summaryOf t)) (stopped 6)
+      grouped g ≡ cond (roomy g) (gives (summaryOf t)) (refused 6)
   -- an accepted plan is a grouping too: its call hands over the same words, or is refused with 6 alone
   pub plans : (text : List ℕ) (p : Plan) → planOf text ≡ got p → planReads p ≡ length t → (work out : List ℕ) →
-      planned (runCall text t work out) ≡ cond (leb (workWords p) (length work) && roomFor t out) (handed (summaryOf t)) (stopped 6)
+      planned (runCall text t work out) ≡ cond (leb (workWords p) (length work) && roomFor t out) (gives (summaryOf t)) (refused 6)
   -- the parts' distances, end to end, are what the uncut reading's reads answer
   pub distances : (c : Cutting) → Follows c → logOf (cutParts c) ≡ t →
-      cutDistances c ≡ cond (cutRoomy c) (handed (map written (answersOf fresh t))) (stopped 6)
+      cutDistances c ≡ cond (cutRoomy c) (gives (map written (answersOf fresh t))) (refused 6)
   -- in the cache of any size a read is a hit exactly where the uncut reading's answer is a distance of at most the size
   pub caches : (c : ℕ) → cacheHits c t ≡ map (heldBy c) (answersOf fresh t)
   -- for every size the summary's words, the session and a watch fed with the answers tell that cache's misses and hit share

@@ -7,7 +7,7 @@ use lib.Dec.{leb}
 use lib.ListN.{length}
 use Rattle.after.specs.Calls.{afterCall}
 use Rattle.session.specs.Sessions.{fresh}
-use Rattle.whole.specs.Runs.{accepted, Outcome, handed, stopped, outcome, Grouping, parts, logOf, grouped, roomy}
+use Rattle.whole.specs.Runs.{accepted, Outcome, gives, refused, outcome, Grouping, parts, logOf, grouped, roomy}
 
 -- a log cut into parts, each with the buffer lent for its distances; a later part also with the grouping of all
 -- earlier parts that is its prefix
@@ -27,18 +27,18 @@ Follows (andThen c g calls buffer) = Follows c × (logOf (parts g) ≡ logOf (cu
 
 -- the distances of a part after what was handed over as its prefix
 abbrev pub after : Outcome → List ℕ → List ℕ → Outcome
-after (handed prefix) reads buffer = outcome (afterCall prefix reads buffer)
-after (stopped n) reads buffer = stopped n
+after (gives prefix) reads buffer = outcome (afterCall prefix reads buffer)
+after (refused n) reads buffer = refused n
 
 -- two lists of distances, end to end
 abbrev pub endToEnd : Outcome → Outcome → Outcome
-endToEnd (handed a) (handed b) = handed (a ++ b)
-endToEnd (handed a) (stopped n) = stopped n
-endToEnd (stopped n) b = stopped n
+endToEnd (gives a) (gives b) = gives (a ++ b)
+endToEnd (gives a) (refused n) = refused n
+endToEnd (refused n) b = refused n
 
 -- the distances of all parts, end to end: the first after 0 0
 unfoldable pub cutDistances : Cutting → Outcome
-cutDistances (only calls buffer) = after (handed (0 ∷ 0 ∷ [])) (accepted fresh calls) buffer
+cutDistances (only calls buffer) = after (gives (0 ∷ 0 ∷ [])) (accepted fresh calls) buffer
 cutDistances (andThen c g calls buffer) = endToEnd (cutDistances c) (after (grouped g) (accepted fresh calls) buffer)
 
 -- each buffer has room for its distances, and each grouping's for its summaries

@@ -37,15 +37,19 @@ unfoldable pub accepted : Session → List ℕ → List ℕ
 accepted s [] = []
 accepted s (x ∷ xs) = keep (readOf s x .answer) x (accepted (readOf s x .session) xs)
 
--- what is handed over after a call that writes words: the words answered, or nothing but its refusal
-pub data Outcome : Type 0 where
-  handed : List ℕ → Outcome
-  stopped : ℕ → Outcome
+-- what a call gives, or nothing but its refusal
+pub data Reply (A : Type 0) : Type 0 where
+  gives : A → Reply A
+  refused : ℕ → Reply A
+
+-- what is handed over after a call that writes words: the words answered
+abbrev pub Outcome : Type 0
+Outcome = Reply (List ℕ)
 
 -- by the answer and the buffer
 abbrev pub outcomeOf : Written → List ℕ → Outcome
-outcomeOf (Words n) buffer = handed (take n buffer)
-outcomeOf (Refused n) buffer = stopped n
+outcomeOf (Words n) buffer = gives (take n buffer)
+outcomeOf (Refused n) buffer = refused n
 
 -- of a call
 abbrev pub outcome : Wrote → Outcome
@@ -73,9 +77,9 @@ logOf (calls ∷ more) = accepted fresh calls ++ logOf more
 
 -- a join of what two groupings handed over
 abbrev pub joinedWith : Outcome → Outcome → List ℕ → Outcome
-joinedWith (handed a) (handed b) buffer = outcome (joinCall a b buffer)
-joinedWith (handed a) (stopped n) buffer = stopped n
-joinedWith (stopped n) b buffer = stopped n
+joinedWith (gives a) (gives b) buffer = outcome (joinCall a b buffer)
+joinedWith (gives a) (refused n) buffer = refused n
+joinedWith (refused n) b buffer = refused n
 
 -- what a grouping hands over
 unfoldable pub grouped : Grouping → Outcome

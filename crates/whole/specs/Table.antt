@@ -14,7 +14,7 @@ use Rattle.session.specs.declared.Answer.the-variants.{Cold, Distance}
 use Rattle.session.specs.Sessions.{fresh}
 use Rattle.session.specs.Reads.{sumsRead}
 use Rattle.session_summary.specs.Summaries.{shareCall as sessionShare}
-use Rattle.whole.specs.Runs.{answersOf, handed, outcome, Grouping, part, joined, grouped}
+use Rattle.whole.specs.Runs.{answersOf, gives, outcome, Grouping, part, joined, grouped}
 use Rattle.whole.specs.Counts.{cacheShare}
 
 -- the first four of the seven reads
@@ -57,25 +57,25 @@ pub record Table : Type 0 where
   pub sums-called : map sumsRead (answersOf fresh seven) ≡ 0 ∷ 0 ∷ 9 ∷ 0 ∷ 8 ∷ 8 ∷ 7 ∷ []
   pub reads-defined : reuses [] seven ≡ cold ∷ cold ∷ at 2 ∷ cold ∷ at 3 ∷ at 1 ∷ at 2 ∷ []
   -- its summary: 7 3, F 7 3 9, R 9 3 7, H 1 2 1
-  pub summary-called : grouped (partOf seven) ≡ handed sevenWords
+  pub summary-called : grouped (partOf seven) ≡ gives sevenWords
   pub summary-defined : summaryOf seven ≡ sevenWords
   -- the summary of 7 3 7 9: 4 3, F 7 3 9, R 9 7 3, H 0 1 0
-  pub front-called : grouped (partOf front) ≡ handed frontWords
+  pub front-called : grouped (partOf front) ≡ gives frontWords
   pub front-defined : summaryOf front ≡ frontWords
   -- the summary of 3 3 9: 3 2, F 3 9, R 9 3, H 1 0
-  pub back-called : grouped (partOf back) ≡ handed backWords
+  pub back-called : grouped (partOf back) ≡ gives backWords
   pub back-defined : summaryOf back ≡ backWords
   -- the join of those two: the seven-read summary
-  pub join-called : grouped (bothOf front back) ≡ handed sevenWords
+  pub join-called : grouped (bothOf front back) ≡ gives sevenWords
   pub join-defined : joinOf frontWords backWords ≡ sevenWords
   -- the join of 0 0 and 0 0: 0 0
-  pub empty-called : outcome (joinCall (0 ∷ 0 ∷ []) (0 ∷ 0 ∷ []) (replicate 20 5)) ≡ handed (0 ∷ 0 ∷ [])
+  pub empty-called : outcome (joinCall (0 ∷ 0 ∷ []) (0 ∷ 0 ∷ []) (replicate 20 5)) ≡ gives (0 ∷ 0 ∷ [])
   pub empty-defined : (joinOf (0 ∷ 0 ∷ []) (0 ∷ 0 ∷ []) ≡ 0 ∷ 0 ∷ []) × (summaryOf [] ≡ 0 ∷ 0 ∷ [])
   -- misses of the seven reads at 0, 2, 9: 7, 4, 3
   pub misses-called : (missesCall sevenWords 0 ≡ Misses 7) × (missesCall sevenWords 2 ≡ Misses 4) × (missesCall sevenWords 9 ≡ Misses 3)
   pub misses-defined : (cacheMisses 0 seven ≡ 7) × (cacheMisses 2 seven ≡ 4) × (cacheMisses 9 seven ≡ 3)
   -- 1 2 joined to 2 1: H 1 1
-  pub turned-called : grouped (bothOf (1 ∷ 2 ∷ []) (2 ∷ 1 ∷ [])) ≡ handed turnedWords
+  pub turned-called : grouped (bothOf (1 ∷ 2 ∷ []) (2 ∷ 1 ∷ [])) ≡ gives turnedWords
   pub turned-defined : (joinOf (summaryOf (1 ∷ 2 ∷ [])) (summaryOf (2 ∷ 1 ∷ [])) ≡ turnedWords) × (summaryOf (1 ∷ 2 ∷ 2 ∷ 1 ∷ []) ≡ turnedWords)
   -- the share of an empty log: 'no reads', at every size
   pub share-called : (c : ℕ) → (shareCall (0 ∷ 0 ∷ []) c ≡ Answered NoReads) × (sessionShare fresh c ≡ Answered NoReads)
