@@ -110,7 +110,7 @@ int64_t jemqolu_list(const uint8_t *text, size_t text_len, uint8_t *out, size_t 
  *   words 1025..2047  1,023 sums: 512 leaves, 1 for a marked slot; the parent of p is 512 + p / 2; the last is the root
  *   word 2048         the next slot
  * Words lent past these are neither read nor written.
- * Each call copies the session's 8 KB and tests all of it: 2 to 3 microseconds a read, however few extents it has, where
+ * Each call on a session copies its 8 KB and tests all of it: 2 to 3 microseconds a read, however few extents it has, where
  * jemqolu_summarize and jemqolu_distances take 0.003 to 0.04 a read. Whoever has a list of reads calls those. */
 
 /* A new session. Lent: 2,049 words. Answer: 2,049. Refusal: -6. */

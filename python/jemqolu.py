@@ -252,8 +252,8 @@ def join(a, b):
 def distances(prefix, reads):
     """The reuse distances of the reads after all that `prefix` sums up, 0 for a cold read; the summary [0, 0] is of no
     reads. Refusals: 5, 8, 9."""
-    part = _words(reads)
-    return _written("distances", _zeros(min(len(part), MAX_READS)), _words(prefix), part)
+    with _words(reads) as part:
+        return _written("distances", _zeros(min(len(part), MAX_READS)), _words(prefix), part)
 
 
 def misses(words, size):

@@ -131,6 +131,18 @@ class Answers(unittest.TestCase):
         self.assertEqual((log.tolist(), bytes(text)), (LOG, TEXT))
         log.append(1), text.append(1)
 
+    def test_a_failed_call_lets_go(self):
+        log, failures = array("I", LOG), []
+        for call in (lambda: jemqolu.distances(None, log), lambda: jemqolu.distances([5], log), lambda: jemqolu.join(log, 5)):
+            with self.assertRaises((TypeError, jemqolu.Refusal)):
+                try:
+                    call()
+                except Exception as failure:
+                    failures.append(failure)
+                    log.append(1)
+                    raise
+        self.assertEqual(len(log), len(LOG) + 3)
+
     def test_no_cells(self):
         for none in words_in_all_forms([]):
             self.assertEqual(jemqolu.summarize(none).tolist(), [0, 0])
