@@ -131,50 +131,53 @@ _NOTHING = ctypes.c_uint64(0)
 _MOST = 4_294_967_295
 
 
-def _viewed(values, cells, typecodes):
-    """A view of a buffer of such cells; it holds the buffer. TypeError where it is of another kind."""
-    view = memoryview(values)
-    typecode = view.format.lstrip("@=<")
-    size = array(typecodes[0]).itemsize
-    if typecode not in typecodes or view.itemsize != size or view.ndim != 1 or not view.c_contiguous:
+class _Cells:
+    """A kind of cell: its name, its bytes, and the formats that a buffer of it may have."""
+
+    def __init__(self, name, typecode, codes):
+        self.name, self.typecode = name, typecode
+        self.bytes = array(typecode).itemsize
+        self.formats = frozenset(mark + code for mark in ("", "@", "=", "<") for code in codes)
+
+    def checked(self, view):
+        """The view, where it is of such cells; otherwise it is released, and TypeError raised."""
+        if view.format in self.formats and view.itemsize == self.bytes and view.ndim == 1 and view.c_contiguous:
+            return view
         kind = "%d dimensions of %r, %d bytes each" % (view.ndim, view.format, view.itemsize)
         view.release()
-        raise TypeError("a buffer of %s without gaps is wanted, not %s" % (cells, kind))
-    return view
+        raise TypeError("a buffer of %s without gaps is wanted, not %s" % (self.name, kind))
+
+    def viewed(self, values):
+        """A view of the buffer that the values are, which it holds, or else of a copy in a bytes object."""
+        try:
+            view = memoryview(values)
+        except TypeError:
+            return memoryview(array(self.typecode, tuple(values)).tobytes()).cast(self.typecode)
+        return self.checked(view)
 
 
-def _words_viewed(values):
-    return _viewed(values, "unsigned 32-bit words", ("I", "L"))
-
-
-def _has_buffer(values):
-    try:
-        memoryview(values).release()
-    except TypeError:
-        return False
-    return True
-
-
-def _copied(values, typecode):
-    """A view of a copy of these numbers, in a bytes object."""
-    return memoryview(array(typecode, tuple(map(operator.index, tuple(values)))).tobytes()).cast(typecode)
+_WORDS = _Cells("unsigned 32-bit words", "I", "IL")
+_BYTES = _Cells("bytes", "B", "Bbc")
 
 
 def _words(values):
     """A view of words: of the buffer that they are, or of a copy."""
-    return _words_viewed(values) if _has_buffer(values) else _copied(values, "I")
+    return _WORDS.viewed(values)
 
 
 def _text(values):
     """A view of a text's bytes: of the buffer that they are, or of a copy."""
-    if isinstance(values, str):
-        return memoryview(values.encode("utf-8", "surrogatepass"))
-    return _viewed(values, "bytes", ("B", "b", "c")) if _has_buffer(values) else _copied(values, "B")
+    return _BYTES.viewed(values.encode("utf-8", "surrogatepass") if isinstance(values, str) else values)
+
+
+def _state(words):
+    """A view of the words that a session or a watch has, which are a buffer."""
+    return _WORDS.checked(memoryview(words))
 
 
 def _writable(words):
     """A view of words that a call may change."""
-    view = _words_viewed(words)
+    view = _state(words)
     if view.readonly:
         view.release()
         raise TypeError("words that can be written to are wanted")
@@ -308,16 +311,16 @@ class Session:
 
     def summary(self):
         """The summary of the reads accepted. Refusal: 7."""
-        return _written("session_summary", _zeros(SUMMARY_WORDS), _words_viewed(self.words))
+        return _written("session_summary", _zeros(SUMMARY_WORDS), _state(self.words))
 
     def misses(self, size):
         """The misses of a cache of `size` extents that reads the same log. Refusal: 7."""
-        with _words_viewed(self.words) as words:
+        with _state(self.words) as words:
             return _call("session_misses", words, _number(size))
 
     def share(self, size):
         """The hits of such a cache divided by all reads, or None where there are no reads. Refusal: 7."""
-        with _words_viewed(self.words) as words:
+        with _state(self.words) as words:
             return _share("session_share", words, _number(size))
 
 
@@ -346,10 +349,10 @@ class Watch:
 
     def misses(self):
         """The misses so far. Refusal: 7."""
-        with _words_viewed(self.words) as words:
+        with _state(self.words) as words:
             return _call("watch_misses", words)
 
     def share(self):
         """The hits divided by all reads so far, or None where there are no reads. Refusal: 7."""
-        with _words_viewed(self.words) as words:
+        with _state(self.words) as words:
             return _share("watch_share", words)

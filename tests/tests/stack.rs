@@ -1,4 +1,4 @@
-//! Every call on a thread with the stack that the header states, and what a thread has at least beside it.
+//! Every call on a thread with the stack that the header states, and one page for the thread itself.
 
 use jemqolu_tests::header::number;
 use jemqolu_tests::plain::plans::{Plan, LEVEL_WORDS, MAX_DEPTH, MAX_PARTS};
@@ -6,8 +6,8 @@ use jemqolu_tests::plain::{logs, session, MAX_READS};
 use jemqolu_tests::{ffi, Answer};
 use std::thread;
 
-/// The least stack that a thread may be given: PTHREAD_STACK_MIN of Linux on x86-64.
-const THREAD_BYTES: usize = 16_384;
+/// What a thread itself takes of its stack: a page, and no less on Linux with glibc.
+const THREAD_BYTES: usize = 4_096;
 
 /// The answer of a call on a thread with little stack; more than it has ends the program.
 #[track_caller]
