@@ -1,10 +1,12 @@
-/* A first program: two parts of a log summarized and joined, the misses of every cache size, a session read by read,
- * and refusals. Built and run from the root of the repository, once `rt staticlib capi` has built the library:
+/* A first program: two parts of a log summarized and joined, the distances of the second after the first, the misses of
+ * every cache size, the same by a joining plan, the listing of a log text, a session read by read, and refusals. Built
+ * and run from the root of the repository, once `rt staticlib capi` has built the library:
  *   gcc -Wall -Wextra -Iinclude -o target/first examples/first.c target/staticlib/libcapi.a && target/first
  * It prints what examples/first.txt has. */
 #include <inttypes.h>
 #include <stdio.h>
 #include <stdlib.h>
+#include <string.h>
 
 #include "jemqolu.h"
 
@@ -31,6 +33,24 @@ static void print_misses(const uint32_t *summary, size_t count) {
     }
 }
 
+/* The log's summary by a plan text, which joins three parts, two of them first. */
+static void print_plan(const uint32_t *log, size_t count) {
+    const char *text = "(join\n (seg 4)\n (join\n  (seg 1)\n  (seg 2)))\n";
+    static uint32_t work[JEMQOLU_WORK_WORDS];
+    uint32_t out[JEMQOLU_SUMMARY_WORDS];
+    int64_t words = jemqolu_plan((const uint8_t *)text, strlen(text), log, count, work, JEMQOLU_WORK_WORDS, out,
+                                 JEMQOLU_SUMMARY_WORDS);
+    print_words("joined by a plan", out, accepted(words, "plan"));
+}
+
+/* The listing of a log text. */
+static void print_listing(void) {
+    const char *text = "(trace\n (read 7)\n (read 3)\n (read 7))\n";
+    static uint8_t out[JEMQOLU_LISTING_BYTES];
+    int64_t bytes = jemqolu_list((const uint8_t *)text, strlen(text), out, JEMQOLU_LISTING_BYTES);
+    printf("%.*s", (int)accepted(bytes, "listing"), (const char *)out);
+}
+
 /* The same log taken read by read, with a watch on a cache of two extents. */
 static void read_one_by_one(const uint32_t *log, size_t count) {
     static uint32_t session[JEMQOLU_SESSION_WORDS];
@@ -51,6 +71,8 @@ static void read_one_by_one(const uint32_t *log, size_t count) {
     }
     int64_t words = jemqolu_session_summary(session, JEMQOLU_SESSION_WORDS, summary, JEMQOLU_SUMMARY_WORDS);
     print_words("summary of the session", summary, accepted(words, "summary"));
+    int64_t misses = jemqolu_session_misses(session, JEMQOLU_SESSION_WORDS, 2);
+    printf("a cache of 2 misses %zu of the session's reads\n", accepted(misses, "misses"));
     if (accepted(jemqolu_watch_share(watch, JEMQOLU_WATCH_WORDS, &share), "share") == 1) {
         printf("a cache of 2 serves %.3f of the reads\n", share);
     }
@@ -64,19 +86,25 @@ static void print_refusals(const uint32_t *summary, size_t count) {
     printf("257 extents: %" PRId64 "\n",
            jemqolu_summarize(many, JEMQOLU_MAX_EXTENTS + 1, out, JEMQOLU_SUMMARY_WORDS));
     printf("a summary without its last word: %" PRId64 "\n", jemqolu_misses(summary, count - 1, 2));
-    printf("room for three words: %" PRId64 "\n", jemqolu_join(summary, count, summary, count, out, 3));
+    if (jemqolu_join(summary, count, summary, count, out, 3) == -JEMQOLU_REFUSED_ROOM) {
+        printf("room for three words: -%d\n", JEMQOLU_REFUSED_ROOM);
+    }
 }
 
 int main(void) {
     const uint32_t log[] = {7, 3, 7, 9, 3, 3, 9};
-    uint32_t a[JEMQOLU_SUMMARY_WORDS], b[JEMQOLU_SUMMARY_WORDS], whole[JEMQOLU_SUMMARY_WORDS];
+    uint32_t a[JEMQOLU_SUMMARY_WORDS], b[JEMQOLU_SUMMARY_WORDS], whole[JEMQOLU_SUMMARY_WORDS], distances[3];
     size_t a_len = accepted(jemqolu_summarize(log, 4, a, JEMQOLU_SUMMARY_WORDS), "the first part");
     size_t b_len = accepted(jemqolu_summarize(log + 4, 3, b, JEMQOLU_SUMMARY_WORDS), "the second part");
     size_t len = accepted(jemqolu_join(a, a_len, b, b_len, whole, JEMQOLU_SUMMARY_WORDS), "the join");
     print_words("first part", a, a_len);
     print_words("second part", b, b_len);
     print_words("both joined", whole, len);
+    size_t reads = accepted(jemqolu_distances(a, a_len, log + 4, 3, distances, 3), "the second part's distances");
+    print_words("distances in the second part", distances, reads);
     print_misses(whole, len);
+    print_plan(log, 7);
+    print_listing();
     read_one_by_one(log, 7);
     print_refusals(whole, len);
     return 0;

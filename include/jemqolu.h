@@ -8,18 +8,13 @@
  * pointer that is not NULL. No pointer may be NULL, each is aligned as its type asks, and what a call writes to must
  * overlap nothing else that it is lent.
  *
- * An answer of 0 or more is what was asked for. A negative answer is a refusal, the negative of its number, and leaves
- * everything lent as it was:
- *   -1  a text line with which no text of the rule can go on, or an end too early
- *   -2  in a text an extent above 4,294,967,295 or a seg above 1,048,576; a distance above 256 given to a watch
- *   -3  the segs of a plan do not add up to the log
- *   -4  a plan text over 65,536 bytes, a ninth join open, a seventeenth part of one join
- *   -5  words that are not a well-formed summary
- *   -6  fewer words or bytes lent than the answer needs
- *   -7  words that are not a sound session or watch, too few of them among these
- *   -8  more than 1,048,576 reads would result, those of a prefix or of both sides of a join counted
- *   -9  more than 256 different extents would result, counted so too
- * What a call writes stands at the front of the buffer lent; what lies past it keeps its contents. */
+ * An answer of 0 or more is what was asked for. A negative answer is a refusal, the negative of its number (`enum
+ * jemqolu_refusal`), and leaves everything lent as it was. What a call writes stands at the front of the buffer lent; what
+ * lies past it keeps its contents.
+ *
+ * Every call is reentrant: it works on what it is lent and on its stack, has no state of its own, allocates nothing and
+ * makes no system call. Any number of threads may call at once, as long as none of them writes to what another is lent.
+ * No call needs more than JEMQOLU_STACK_BYTES of stack. */
 #ifndef JEMQOLU_H
 #define JEMQOLU_H
 
@@ -30,14 +25,37 @@
 extern "C" {
 #endif
 
-/* The limits, and lengths that always suffice. */
-#define JEMQOLU_MAX_READS 1048576
-#define JEMQOLU_MAX_EXTENTS 256
-#define JEMQOLU_SUMMARY_WORDS 770 /* 2 + 3 * 256: any summary */
-#define JEMQOLU_WORK_WORDS 12320  /* 1,540 * 8: any plan */
+/* The refusals. An answer of -JEMQOLU_REFUSED_ROOM, say, is the sixth. */
+enum jemqolu_refusal {
+    JEMQOLU_REFUSED_LINE = 1,    /* a text line with which no text of the rule can go on, or an end too early */
+    JEMQOLU_REFUSED_NUMBER = 2,  /* in a text an extent above 4,294,967,295 or a seg above 1,048,576; a distance above
+                                    256 given to a watch */
+    JEMQOLU_REFUSED_SEGS = 3,    /* the segs of a plan do not add up to the log */
+    JEMQOLU_REFUSED_PLAN = 4,    /* a plan text over 65,536 bytes, a ninth join open, a seventeenth part of one join */
+    JEMQOLU_REFUSED_SUMMARY = 5, /* words that are not a well-formed summary */
+    JEMQOLU_REFUSED_ROOM = 6,    /* fewer words or bytes lent than the answer needs */
+    JEMQOLU_REFUSED_STATE = 7,   /* words that are not a sound session or watch, too few of them among these */
+    JEMQOLU_REFUSED_READS = 8,   /* more than 1,048,576 reads would result, those of a prefix or of both sides of a join
+                                    counted */
+    JEMQOLU_REFUSED_EXTENTS = 9  /* more than 256 different extents would result, counted so too */
+};
+
+/* The limits. */
+#define JEMQOLU_MAX_READS 1048576    /* of a log */
+#define JEMQOLU_MAX_EXTENTS 256      /* different ones in a log */
+#define JEMQOLU_MAX_PLAN_BYTES 65536 /* of a plan's text; a log's text has no limit */
+#define JEMQOLU_MAX_JOINS 8          /* open at once in a plan */
+#define JEMQOLU_MAX_PARTS 16         /* of one join of a plan */
+#define JEMQOLU_MAX_SEG 1048576      /* the reads of one seg of a plan */
+
+/* Lengths that always suffice, and the exact ones of a session and a watch. */
+#define JEMQOLU_SUMMARY_WORDS 770  /* 2 + 3 * 256: any summary */
+#define JEMQOLU_LEVEL_WORDS 1540   /* the work words for each join open at once where a plan is deepest */
+#define JEMQOLU_WORK_WORDS 12320   /* 1,540 * 8: any plan */
 #define JEMQOLU_LISTING_BYTES 8192 /* any listing */
 #define JEMQOLU_SESSION_WORDS 2049 /* a session */
 #define JEMQOLU_WATCH_WORDS 4      /* a watch */
+#define JEMQOLU_STACK_BYTES 65536  /* the stack of any call, beside what the thread and the caller use of it */
 
 /* The summary of a list of reads, a whole part in one call.
  * Lent: the reads; `out`, as many words as the summary has. Answer: the words written. Refusals, in order: -8, -9, -6. */
@@ -74,8 +92,8 @@ int64_t jemqolu_share(const uint32_t *words, size_t words_len, uint32_t size, do
 
 /* A joining plan carried out on a log: the log's summary, its parts summarized and joined as the plan's text says.
  * Lent: the plan's text; the log; `work`, 1,540 words for each join that is open at once where the plan is deepest, which
- * are 0 afterwards; `out`, as many words as the summary has. Answer: the words written. Refusals, in order: -4 for the text's length; the earliest faulty
- * line's, on one line -1, -2, -4; then -3, -8, -9, -6. */
+ * are 0 afterwards; `out`, as many words as the summary has. Answer: the words written.
+ * Refusals, in order: -4 for the text's length; the earliest faulty line's, on one line -1, -2, -4; then -3, -8, -9, -6. */
 int64_t jemqolu_plan(const uint8_t *text, size_t text_len, const uint32_t *log, size_t log_len,
                      uint32_t *work, size_t work_len, uint32_t *out, size_t out_len);
 
@@ -91,7 +109,9 @@ int64_t jemqolu_list(const uint8_t *text, size_t text_len, uint8_t *out, size_t 
  *   words 513..1024   512 slots: an extent stands in the slot of its last read, 0 in the others
  *   words 1025..2047  1,023 sums: 512 leaves, 1 for a marked slot; the parent of p is 512 + p / 2; the last is the root
  *   word 2048         the next slot
- * Words lent past these are neither read nor written. */
+ * Words lent past these are neither read nor written.
+ * Each call on a session copies its 8 KB and tests all of it: 2 to 3 microseconds a read, however few extents it has, where
+ * jemqolu_summarize and jemqolu_distances take 0.003 to 0.04 a read. Whoever has a list of reads calls those. */
 
 /* A new session. Lent: 2,049 words. Answer: 2,049. Refusal: -6. */
 int64_t jemqolu_session_new(uint32_t *session, size_t session_len);
@@ -103,6 +123,13 @@ int64_t jemqolu_session_read(uint32_t *session, size_t session_len, uint32_t ext
 /* The summary of the reads accepted.
  * Lent: the session; `out`, as many words as the summary has. Answer: the words written. Refusals, in order: -7, -6. */
 int64_t jemqolu_session_summary(const uint32_t *session, size_t session_len, uint32_t *out, size_t out_len);
+
+/* The misses of a cache of `size` extents that reads the same log. Lent: the session. Refusal: -7. */
+int64_t jemqolu_session_misses(const uint32_t *session, size_t session_len, uint32_t size);
+
+/* The hits of such a cache divided by all reads, written to `*share`.
+ * Lent: the session; one double. Answer: 1, or 0 with `*share` unchanged where there are no reads. Refusal: -7. */
+int64_t jemqolu_session_share(const uint32_t *session, size_t session_len, uint32_t size, double *share);
 
 /* A watch on one cache size is 4 words with the caller: the size, the reads, the cold reads, the hits.
  * Words lent past these are neither read nor written. */

@@ -4,32 +4,46 @@ A log is a list of extents in the order read; an extent is a number from 0 to 4,
 the reads L, the number v of different extents, then v words F (the extents by first read), v words R (by last read, the
 latest first) and v words H (the word for d counts the reads of reuse distance d).
 
-Words are taken as an array('I') or as any iterable of numbers, and come back as an array('I'); texts are bytes, or str
-of ASCII characters. What is handed in is never changed. A call that is sent back raises Refusal with the number.
+Words are any buffer of unsigned 32-bit words (array('I'), a numpy array of uint32, a memoryview of one), which is read
+where it stands, or any iterable of numbers, which is copied; they come back as an array('I'). Texts are any buffer of
+bytes (bytes, bytearray, mmap, array('B')), an iterable of numbers from 0 to 255, or a str, which is taken in UTF-8.
+What is handed in is never changed. A buffer of other cells, of several dimensions or with gaps is refused with
+TypeError, words that stand at no multiple of 4 with ValueError, and a number that does not fit with OverflowError.
+A call that the library sends back raises Refusal with the number.
+
+A buffer is held through the call: meanwhile nothing can resize or free it. A call on memory that could be written to
+keeps the interpreter's lock, so that no other thread of Python changes it; one whose inputs are bytes objects and
+copies lets other threads run. Memory that other processes or C code change during a call is for the caller to copy.
 
 `python/build` builds the shared object that is loaded here, target/libjemqolu.so; the environment variable
 JEMQOLU_LIBRARY names another one.
 """
 import ctypes
+import operator
 import os
 from array import array
 
 MAX_READS = 1_048_576
 MAX_EXTENTS = 256
+MAX_PLAN_BYTES = 65_536
+MAX_JOINS = 8
+MAX_PARTS = 16
+MAX_SEG = 1_048_576
 SUMMARY_WORDS = 2 + 3 * MAX_EXTENTS
-WORK_WORDS = 1540 * 8
+LEVEL_WORDS = 1540
+WORK_WORDS = LEVEL_WORDS * MAX_JOINS
 LISTING_BYTES = 8192
 SESSION_WORDS = 2049
 WATCH_WORDS = 4
 
 MEANINGS = {
     1: "a text line with which no text of the rule can go on, or an end too early",
-    2: "in a text an extent above 4,294,967,295 or a seg above 1,048,576; a distance above 256 given to a watch",
+    2: "in a text an extent above 4,294,967,295 or a seg above 1,048,576; a number given to a watch that is no distance",
     3: "the segs of a plan do not add up to the log",
     4: "a plan text over 65,536 bytes, a ninth join open, a seventeenth part of one join",
     5: "words that are not a well-formed summary",
     6: "fewer words or bytes lent than the answer needs",
-    7: "words that are not a sound session or watch",
+    7: "words that are not a sound session or watch, too few of them among these",
     8: "more than 1,048,576 reads would result",
     9: "more than 256 different extents would result",
 }
@@ -46,13 +60,41 @@ class Refusal(Exception):
         return Refusal, (self.number,)
 
 
-def _load():
-    """The shared object, with the types of its calls."""
+class _Buffer(ctypes.Structure):
+    """What Python tells of a buffer that it holds: the Py_buffer of its C interface."""
+
+    _fields_ = [
+        ("address", ctypes.c_void_p),
+        ("owner", ctypes.c_void_p),
+        ("bytes", ctypes.c_ssize_t),
+        ("item_bytes", ctypes.c_ssize_t),
+        ("read_only", ctypes.c_int),
+        ("dimensions", ctypes.c_int),
+        ("format", ctypes.c_void_p),
+        ("shape", ctypes.c_void_p),
+        ("strides", ctypes.c_void_p),
+        ("suboffsets", ctypes.c_void_p),
+        ("internal", ctypes.c_void_p),
+    ]
+
+
+_hold = ctypes.pythonapi.PyObject_GetBuffer
+_hold.argtypes, _hold.restype = [ctypes.py_object, ctypes.POINTER(_Buffer), ctypes.c_int], ctypes.c_int
+_release = ctypes.pythonapi.PyBuffer_Release
+_release.argtypes, _release.restype = [ctypes.POINTER(_Buffer)], None
+
+
+def _path():
+    """Where the shared object is."""
     beside = os.path.join(os.path.dirname(os.path.abspath(__file__)), "..", "target", "libjemqolu.so")
     path = os.environ.get("JEMQOLU_LIBRARY", beside)
     if not os.path.exists(path):
         raise ImportError("%s is not there: run python/build" % path)
-    library = ctypes.CDLL(path)
+    return path
+
+
+def _load(library):
+    """The library's calls by their names, with their types."""
     lent = [ctypes.c_void_p, ctypes.c_size_t]
     number, place = [ctypes.c_uint32], [ctypes.c_void_p]
     types = {
@@ -66,6 +108,8 @@ def _load():
         "session_new": lent,
         "session_read": lent + number + place,
         "session_summary": lent + lent,
+        "session_misses": lent + number,
+        "session_share": lent + number + place,
         "watch_new": number + lent,
         "watch_read": lent + number,
         "watch_misses": lent,
@@ -79,40 +123,109 @@ def _load():
     return calls
 
 
-_CALLS = _load()
+# the calls that keep the interpreter's lock, and those that let other threads run
+_LOCKED = _load(ctypes.PyDLL(_path()))
+_UNLOCKED = _load(ctypes.CDLL(_path()))
 # the address that goes with a length of 0
-_NOTHING = array("I", [0])
+_NOTHING = ctypes.c_uint64(0)
+_MOST = 4_294_967_295
+
+
+class _Cells:
+    """A kind of cell: its name, its bytes, and the formats that a buffer of it may have."""
+
+    def __init__(self, name, typecode, codes):
+        self.name, self.typecode = name, typecode
+        self.bytes = array(typecode).itemsize
+        self.formats = frozenset(mark + code for mark in ("", "@", "=", "<") for code in codes)
+
+    def checked(self, view):
+        """The view, where it is of such cells; otherwise it is released, and TypeError raised."""
+        if view.format in self.formats and view.itemsize == self.bytes and view.ndim == 1 and view.c_contiguous:
+            return view
+        kind = "%d dimensions of %r, %d bytes each" % (view.ndim, view.format, view.itemsize)
+        view.release()
+        raise TypeError("a buffer of %s without gaps is wanted, not %s" % (self.name, kind))
+
+    def viewed(self, values):
+        """A view of the buffer that the values are, which it holds, or else of a copy in a bytes object."""
+        try:
+            view = memoryview(values)
+        except TypeError:
+            return memoryview(array(self.typecode, tuple(values)).tobytes()).cast(self.typecode)
+        return self.checked(view)
+
+
+_WORDS = _Cells("unsigned 32-bit words", "I", "IL")
+_BYTES = _Cells("bytes", "B", "Bbc")
 
 
 def _words(values):
-    """The values as an array of 32-bit words: the same one where they are that already."""
-    if isinstance(values, array) and values.typecode == "I":
-        return values
-    return array("I", values)
+    """A view of words: of the buffer that they are, or of a copy."""
+    return _WORDS.viewed(values)
 
 
-def _bytes(text):
-    """A text as an array of bytes."""
-    return array("B", text.encode("ascii") if isinstance(text, str) else text)
+def _text(values):
+    """A view of a text's bytes: of the buffer that they are, or of a copy."""
+    return _BYTES.viewed(values.encode("utf-8", "surrogatepass") if isinstance(values, str) else values)
+
+
+def _state(words):
+    """A view of the words that a session or a watch has, which are a buffer."""
+    return _WORDS.checked(memoryview(words))
+
+
+def _writable(words):
+    """A view of words that a call may change."""
+    view = _state(words)
+    if view.readonly:
+        view.release()
+        raise TypeError("words that can be written to are wanted")
+    return view
 
 
 def _zeros(count, typecode="I"):
     return array(typecode, bytes(count * array(typecode).itemsize))
 
 
-def _call(name, *arguments):
-    """The call's answer; an array goes as its address and its length. A negative answer is raised as a Refusal."""
-    passed = []
-    for argument in arguments:
-        if isinstance(argument, array):
-            address, length = argument.buffer_info()
-            passed += [address if length else _NOTHING.buffer_info()[0], length]
-        else:
-            passed.append(argument)
-    answer = _CALLS[name](*passed)
+def _lend(view, held):
+    """The address and the length that stand for a view; what Python holds for it is added to `held`."""
+    buffer = _Buffer()
+    _hold(view, ctypes.byref(buffer), 0)
+    held.append(buffer)
+    if not len(view):
+        return [ctypes.addressof(_NOTHING), 0]
+    if buffer.address % view.itemsize:
+        raise ValueError("words that stand at a multiple of %d are wanted" % view.itemsize)
+    return [buffer.address, len(view)]
+
+
+def _call(name, *arguments, calls=_LOCKED):
+    """The call's answer; a view goes as its address and its length. A negative answer is raised as a Refusal."""
+    passed, held = [], []
+    try:
+        for argument in arguments:
+            passed += _lend(argument, held) if isinstance(argument, memoryview) else [argument]
+        answer = calls[name](*passed)
+    finally:
+        for buffer in held:
+            _release(ctypes.byref(buffer))
     if answer < 0:
         raise Refusal(-answer)
     return answer
+
+
+def _written(name, out, *lent, work=()):
+    """What the call on these views writes to the front of `out`, an array that nobody else has, nor has `work`; each view
+    is released."""
+    fixed = all(type(view.obj) is bytes for view in lent)
+    try:
+        with memoryview(out) as room:
+            count = _call(name, *lent, *map(memoryview, work), room, calls=_UNLOCKED if fixed else _LOCKED)
+    finally:
+        for view in lent:
+            view.release()
+    return out[:count]
 
 
 def _share(name, *arguments):
@@ -123,106 +236,123 @@ def _share(name, *arguments):
 
 def _number(value):
     """The value, where it is a number of 32 bits."""
-    if not 0 <= value <= 4_294_967_295:
-        raise OverflowError("not a number from 0 to 4,294,967,295: %d" % value)
-    return value
+    number = operator.index(value)
+    if not 0 <= number <= _MOST:
+        raise OverflowError("not a number from 0 to 4,294,967,295: %d" % number)
+    return number
 
 
 def summarize(reads):
     """The summary of a list of reads. Refusals: 8, 9."""
-    out = _zeros(SUMMARY_WORDS)
-    return out[: _call("summarize", _words(reads), out)]
+    return _written("summarize", _zeros(SUMMARY_WORDS), _words(reads))
 
 
 def join(a, b):
     """The summary of the log of `a`, then the log of `b`. Refusals: 5, 8, 9."""
-    out = _zeros(SUMMARY_WORDS)
-    return out[: _call("join", _words(a), _words(b), out)]
+    return _written("join", _zeros(SUMMARY_WORDS), _words(a), _words(b))
 
 
 def distances(prefix, reads):
     """The reuse distances of the reads after all that `prefix` sums up, 0 for a cold read; the summary [0, 0] is of no
     reads. Refusals: 5, 8, 9."""
-    part = _words(reads)
-    out = _zeros(len(part))
-    _call("distances", _words(prefix), part, out)
-    return out
+    with _words(reads) as part:
+        return _written("distances", _zeros(min(len(part), MAX_READS)), _words(prefix), part)
 
 
 def misses(words, size):
     """The misses of a cache of `size` extents that reads the summary's log. Refusal: 5."""
-    return _call("misses", _words(words), _number(size))
+    with _words(words) as summary:
+        return _call("misses", summary, _number(size))
 
 
 def share(words, size):
     """The hits of such a cache divided by all reads, or None where there are no reads. Refusal: 5."""
-    return _share("share", _words(words), _number(size))
+    with _words(words) as summary:
+        return _share("share", summary, _number(size))
 
 
 def plan(text, log):
     """The log's summary, its parts summarized and joined as the plan's text says. Refusals: 1, 2, 3, 4, 8, 9."""
-    out = _zeros(SUMMARY_WORDS)
-    return out[: _call("plan", _bytes(text), _words(log), _zeros(WORK_WORDS), out)]
+    return _written("plan", _zeros(SUMMARY_WORDS), _text(text), _words(log), work=[_zeros(WORK_WORDS)])
 
 
 def listing(text):
     """The listing of a log text, as bytes: its reads, its cold reads, and for every size from 1 to its extents the
     misses. Refusals: 1, 2, 8, 9."""
-    out = _zeros(LISTING_BYTES, "B")
-    return out[: _call("list", _bytes(text), out)].tobytes()
+    return _written("list", _zeros(LISTING_BYTES, "B"), _text(text)).tobytes()
 
 
 class Session:
-    """A log taken read by read. `words` is its whole state, an array('I'), which may be kept and copied; `sums_read` is
-    the number of sums that the last accepted read looked at, 0 for a cold read."""
+    """A log taken read by read. `words` is its whole state, an array('I'), which may be kept and copied, or set to any
+    buffer of words that can be written to; `sums_read` is the number of sums that the last accepted read looked at, 0 for
+    a cold read."""
 
     def __init__(self):
         self.sums_read = 0
         self.words = _zeros(SESSION_WORDS)
-        _call("session_new", self.words)
+        with _writable(self.words) as words:
+            _call("session_new", words)
 
     @classmethod
     def resume(cls, words):
         """A session that goes on from a copy of these words."""
         session = cls()
-        session.words = array("I", words)
+        with _words(words) as view:
+            session.words = array("I", view.tobytes())
         return session
 
     def read(self, extent):
         """One more read: its reuse distance, 0 for a cold read. A refused read changes nothing. Refusals: 7, 8, 9."""
-        looked = ctypes.c_uint32(self.sums_read)
-        distance = _call("session_read", self.words, _number(extent), ctypes.byref(looked))
+        looked = ctypes.c_uint32(0)
+        with _writable(self.words) as words:
+            distance = _call("session_read", words, _number(extent), ctypes.byref(looked))
         self.sums_read = looked.value
         return distance
 
     def summary(self):
         """The summary of the reads accepted. Refusal: 7."""
-        out = _zeros(SUMMARY_WORDS)
-        return out[: _call("session_summary", self.words, out)]
+        return _written("session_summary", _zeros(SUMMARY_WORDS), _state(self.words))
+
+    def misses(self, size):
+        """The misses of a cache of `size` extents that reads the same log. Refusal: 7."""
+        with _state(self.words) as words:
+            return _call("session_misses", words, _number(size))
+
+    def share(self, size):
+        """The hits of such a cache divided by all reads, or None where there are no reads. Refusal: 7."""
+        with _state(self.words) as words:
+            return _share("session_share", words, _number(size))
 
 
 class Watch:
-    """Reads, cold reads and hits of one cache size. `words` is its whole state, an array('I')."""
+    """Reads, cold reads and hits of one cache size. `words` is its whole state, an array('I'), which may be set to any
+    buffer of words that can be written to."""
 
     def __init__(self, size):
         self.words = _zeros(WATCH_WORDS)
-        _call("watch_new", _number(size), self.words)
+        with _writable(self.words) as words:
+            _call("watch_new", _number(size), words)
 
     @classmethod
     def resume(cls, words):
         """A watch that goes on from a copy of these words; the first of them is its size."""
         watch = cls(0)
-        watch.words = array("I", words)
+        with _words(words) as view:
+            watch.words = array("I", view.tobytes())
         return watch
 
     def read(self, distance):
-        """One more read's distance, as Session.read and distances answer it. Refusals: 7, 2, 8."""
-        _call("watch_read", self.words, _number(distance))
+        """One more read's distance, as Session.read and distances answer it: 0 for a cold read. Refusals: 7, 2, 8."""
+        number = operator.index(distance)
+        with _writable(self.words) as words:
+            _call("watch_read", words, number if 0 <= number <= MAX_EXTENTS else _MOST)
 
     def misses(self):
         """The misses so far. Refusal: 7."""
-        return _call("watch_misses", self.words)
+        with _state(self.words) as words:
+            return _call("watch_misses", words)
 
     def share(self):
         """The hits divided by all reads so far, or None where there are no reads. Refusal: 7."""
-        return _share("watch_share", self.words)
+        with _state(self.words) as words:
+            return _share("watch_share", words)

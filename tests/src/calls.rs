@@ -128,6 +128,24 @@ pub fn session_summary(session: &[u32], room: usize) -> Answer<Vec<u32>> {
     written(answer, &out)
 }
 
+/// The misses of a session at a size.
+#[track_caller]
+pub fn session_misses(session: &[u32], size: u32) -> Answer<u64> {
+    let session = Lent::holding(session);
+    let answer = ffi::session_misses(session.cells(), size);
+    session.assert_kept();
+    answer.map(|misses| misses as u64)
+}
+
+/// The hit share of a session at a size.
+#[track_caller]
+pub fn session_share(session: &[u32], size: u32) -> Answer<Option<f64>> {
+    let (session, mut share) = (Lent::holding(session), Lent::room(1));
+    let answer = ffi::session_share(session.cells(), size, &mut share.cells_mut()[0]);
+    session.assert_kept();
+    shared(answer, &share)
+}
+
 /// A new watch in a buffer of `room` words.
 #[track_caller]
 pub fn watch_new(size: u32, room: usize) -> Answer<Vec<u32>> {

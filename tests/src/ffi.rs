@@ -37,6 +37,8 @@ mod raw {
         pub fn jemqolu_session_new(session: *mut u32, session_len: usize) -> i64;
         pub fn jemqolu_session_read(session: *mut u32, session_len: usize, extent: u32, sums_read: *mut u32) -> i64;
         pub fn jemqolu_session_summary(session: *const u32, session_len: usize, out: *mut u32, out_len: usize) -> i64;
+        pub fn jemqolu_session_misses(session: *const u32, session_len: usize, size: u32) -> i64;
+        pub fn jemqolu_session_share(session: *const u32, session_len: usize, size: u32, share: *mut f64) -> i64;
         pub fn jemqolu_watch_new(size: u32, watch: *mut u32, watch_len: usize) -> i64;
         pub fn jemqolu_watch_read(watch: *mut u32, watch_len: usize, distance: u32) -> i64;
         pub fn jemqolu_watch_misses(watch: *const u32, watch_len: usize) -> i64;
@@ -110,6 +112,16 @@ pub fn session_read(session: &mut [u32], extent: u32, sums_read: &mut u32) -> An
 /// The summary of a session's reads; the words written.
 pub fn session_summary(session: &[u32], out: &mut [u32]) -> Answer<usize> {
     answer(unsafe { raw::jemqolu_session_summary(session.as_ptr(), session.len(), out.as_mut_ptr(), out.len()) })
+}
+
+/// The misses of a cache of `size` extents that reads a session's log.
+pub fn session_misses(session: &[u32], size: u32) -> Answer<usize> {
+    answer(unsafe { raw::jemqolu_session_misses(session.as_ptr(), session.len(), size) })
+}
+
+/// The hit share of a cache of `size` extents that reads a session's log; 1, or 0 where there are no reads.
+pub fn session_share(session: &[u32], size: u32, share: &mut f64) -> Answer<usize> {
+    answer(unsafe { raw::jemqolu_session_share(session.as_ptr(), session.len(), size, share) })
 }
 
 /// A new watch on a cache of `size` extents; its words.

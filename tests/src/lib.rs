@@ -3,6 +3,7 @@
 pub mod calls;
 pub mod ffi;
 pub mod guard;
+pub mod header;
 pub mod made;
 pub mod plain;
 pub mod random;

@@ -1,4 +1,4 @@
-//! Words that may or may not be a session, given to both calls that take one.
+//! Words that may or may not be a session, given to all calls that take one.
 
 use jemqolu_tests::plain::session::{self, COUNTS, FIRSTS, NEXT, READS, SLOT, SLOTS, SUMS, WORDS};
 use jemqolu_tests::plain::MAX_READS;
@@ -13,7 +13,13 @@ struct Seen {
     refused: u32,
 }
 
-/// Compares a read and the summary of a session.
+/// Sizes to try in turn: none, 1, the number of extents, one more, and the largest.
+fn size(words: &[u32], turn: u32) -> u32 {
+    let extents = words.get(SUMS.end - 1).copied().unwrap_or(0);
+    [0, 1, extents, extents.wrapping_add(1), u32::MAX][turn as usize % 5]
+}
+
+/// Compares a read, the summary, and the misses and the share of a session at a size.
 fn compare(tally: &mut Tally, seen: &mut Seen, words: &[u32], extent: u32) {
     let (mut got, mut wanted) = (words.to_vec(), words.to_vec());
     let answer = session::read(&mut wanted, extent);
@@ -27,6 +33,11 @@ fn compare(tally: &mut Tally, seen: &mut Seen, words: &[u32], extent: u32) {
         seen.refused += 1;
     }
     tally.same(calls::session_summary(words, 770), summary, &context);
+    let size = size(words, seen.sound + seen.refused);
+    tally.same(calls::session_misses(words, size), session::misses(words, size), &(size, &context));
+    let bits = |share: Option<f64>| share.map(f64::to_bits);
+    let (got, wanted) = (calls::session_share(words, size), session::share(words, size));
+    tally.same(got.map(bits), wanted.map(bits), &(size, &context));
 }
 
 /// The words that are not 0, with their places.
@@ -84,7 +95,7 @@ fn each_word_changed() {
         }
     }
     assert!(seen.sound >= 100 && seen.refused >= 20_000, "{} sound, {} refused", seen.sound, seen.refused);
-    tally.at_least(120_000);
+    tally.at_least(200_000);
 }
 
 #[test]
@@ -99,7 +110,7 @@ fn lengths_around_a_session() {
         }
     }
     assert_eq!((seen.sound, seen.refused), (55, 66));
-    tally.at_least(330);
+    tally.at_least(600);
 }
 
 /// Changes words of a session by one of twelve rules.
@@ -160,7 +171,7 @@ fn several_words_changed() {
         compare(&mut tally, &mut seen, &words, extent);
     }
     assert!(seen.sound >= 1500 && seen.refused >= 2500, "{} sound, {} refused", seen.sound, seen.refused);
-    tally.at_least(24_000);
+    tally.at_least(40_000);
 }
 
 /// A session with marks in these slots, over the extents 10, 11 and so on, and so many reads that are not cold.
@@ -206,7 +217,7 @@ fn each_clause_broken_alone() {
     counted_above[READS] += 1;
     compare(&mut tally, &mut seen, &counted_above, 10);
     assert_eq!((seen.sound, seen.refused), (4, 14));
-    tally.at_least(54);
+    tally.at_least(90);
 }
 
 /// Adds to a sum and to every sum above it, modulo 2^32.
@@ -231,7 +242,7 @@ fn each_sum_changed_with_all_above_it() {
         }
     }
     assert!(seen.sound == 0 && seen.refused == 6 * 1023, "{} sound, {} refused", seen.sound, seen.refused);
-    tally.at_least(18_000);
+    tally.at_least(30_000);
 }
 
 #[test]
@@ -254,5 +265,5 @@ fn sums_that_agree_only_modulo_two_to_32() {
     (level[SUMS][512], level[SUMS][513]) = (u32::MAX, 3);
     compare(&mut tally, &mut seen, &level, 10);
     assert_eq!((seen.sound, seen.refused), (2, 7));
-    tally.at_least(27);
+    tally.at_least(45);
 }

@@ -22,6 +22,10 @@ fn a_slice_of_no_words_may_have_any_pointer() {
     assert_eq!(ffi::session_read(&mut [], 1, &mut sums_read), Err(refusal::STATE));
     assert_eq!(ffi::session_summary(&[], &mut []), Err(refusal::STATE));
     assert_eq!(ffi::session_summary(&session::new(), &mut []), Err(refusal::ROOM));
+    assert_eq!(ffi::session_misses(&[], 1), Err(refusal::STATE));
+    assert_eq!(ffi::session_share(&[], 1, &mut share), Err(refusal::STATE));
+    assert_eq!(ffi::session_misses(&session::new(), 1), Ok(0));
+    assert_eq!(ffi::session_share(&session::new(), 1, &mut share), Ok(0));
     assert_eq!(ffi::watch_new(1, &mut []), Err(refusal::ROOM));
     assert_eq!(ffi::watch_read(&mut [], 1), Err(refusal::STATE));
     assert_eq!(ffi::watch_misses(&[]), Err(refusal::STATE));

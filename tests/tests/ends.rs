@@ -63,6 +63,10 @@ fn sessions_and_watches() {
             tally.same(words == whole && sums_read == 5, true, &len);
             let answer = front(ffi::session_summary(&words[..len], &mut out), &out);
             tally.same(answer, session::summary(&whole[..len]), &len);
+            let (misses, mut share) = (ffi::session_misses(&words[..len], 1).map(|misses| misses as u64), 0.0);
+            tally.same(misses, session::misses(&whole[..len], 1), &len);
+            let answer = ffi::session_share(&words[..len], 1, &mut share).map(|some| (some > 0).then_some(share));
+            tally.same(answer, session::share(&whole[..len], 1), &len);
         }
     }
     let whole = [3, 9, 4, 2, 1];
@@ -76,7 +80,7 @@ fn sessions_and_watches() {
         let answer = ffi::watch_share(&whole[..len], &mut share).map(|some| (some > 0).then_some(share));
         tally.same(answer, watch::share(&whole[..len]), &len);
     }
-    tally.at_least(2000);
+    tally.at_least(3500);
 }
 
 #[test]

@@ -1,11 +1,11 @@
-//! The header: its calls are those declared in `ffi`, and its limits those of the definitions.
+//! The header: its calls are those declared in `ffi`, and its limits and refusals those of the definitions.
 
+use jemqolu_tests::header::{number, HEADER};
 use jemqolu_tests::plain::{plans, session, watch, MAX_EXTENTS, MAX_READS};
-
-const HEADER: &str = include_str!("../../include/jemqolu.h");
+use jemqolu_tests::refusal;
 
 /// The declarations as they stand in the header, line ends and indents aside.
-const CALLS: [&str; 14] = [
+const CALLS: [&str; 16] = [
     "jemqolu_summarize(const uint32_t *reads, size_t reads_len, uint32_t *out, size_t out_len)",
     "jemqolu_join(const uint32_t *a, size_t a_len, const uint32_t *b, size_t b_len, uint32_t *out, size_t out_len)",
     "jemqolu_distances(const uint32_t *prefix, size_t prefix_len, const uint32_t *reads, size_t reads_len, \
@@ -18,6 +18,8 @@ const CALLS: [&str; 14] = [
     "jemqolu_session_new(uint32_t *session, size_t session_len)",
     "jemqolu_session_read(uint32_t *session, size_t session_len, uint32_t extent, uint32_t *sums_read)",
     "jemqolu_session_summary(const uint32_t *session, size_t session_len, uint32_t *out, size_t out_len)",
+    "jemqolu_session_misses(const uint32_t *session, size_t session_len, uint32_t size)",
+    "jemqolu_session_share(const uint32_t *session, size_t session_len, uint32_t size, double *share)",
     "jemqolu_watch_new(uint32_t size, uint32_t *watch, size_t watch_len)",
     "jemqolu_watch_read(uint32_t *watch, size_t watch_len, uint32_t distance)",
     "jemqolu_watch_misses(const uint32_t *watch, size_t watch_len)",
@@ -33,17 +35,31 @@ fn the_header_declares_these_calls_and_no_others() {
 
 #[test]
 fn the_header_has_the_limits_of_the_definitions() {
-    let defined = |name: &str| -> u64 {
-        let line = HEADER.lines().find_map(|line| line.strip_prefix(&format!("#define JEMQOLU_{name} ")));
-        let number = line.and_then(|line| line.split_whitespace().next());
-        number.and_then(|number| number.parse().ok()).unwrap_or_else(|| panic!("no number {name} in the header"))
-    };
-    assert_eq!(defined("MAX_READS"), MAX_READS);
-    assert_eq!(defined("MAX_EXTENTS"), MAX_EXTENTS as u64);
-    assert_eq!(defined("SUMMARY_WORDS"), 2 + 3 * MAX_EXTENTS as u64);
-    assert_eq!(defined("WORK_WORDS"), (plans::LEVEL_WORDS * plans::MAX_DEPTH) as u64);
-    assert_eq!(defined("SESSION_WORDS"), session::WORDS as u64);
-    assert_eq!(defined("WATCH_WORDS"), watch::WORDS as u64);
+    assert_eq!(number("MAX_READS"), MAX_READS);
+    assert_eq!(number("MAX_EXTENTS"), MAX_EXTENTS as u64);
+    assert_eq!(number("MAX_PLAN_BYTES"), plans::MAX_BYTES as u64);
+    assert_eq!(number("MAX_JOINS"), plans::MAX_DEPTH as u64);
+    assert_eq!(number("MAX_PARTS"), plans::MAX_PARTS as u64);
+    assert_eq!(number("MAX_SEG"), MAX_READS);
+    assert_eq!(number("SUMMARY_WORDS"), 2 + 3 * MAX_EXTENTS as u64);
+    assert_eq!(number("LEVEL_WORDS"), plans::LEVEL_WORDS as u64);
+    assert_eq!(number("WORK_WORDS"), (plans::LEVEL_WORDS * plans::MAX_DEPTH) as u64);
+    assert_eq!(number("SESSION_WORDS"), session::WORDS as u64);
+    assert_eq!(number("WATCH_WORDS"), watch::WORDS as u64);
     let longest_row = " (at 256 1048576)\n".len() as u64;
-    assert!(defined("LISTING_BYTES") >= (MAX_EXTENTS as u64 + 3) * longest_row);
+    assert!(number("LISTING_BYTES") >= (MAX_EXTENTS as u64 + 3) * longest_row);
+}
+
+#[test]
+fn the_header_names_the_refusals() {
+    let named = |name: &str| -> i64 {
+        let start = format!("JEMQOLU_REFUSED_{name} = ");
+        let line = HEADER.lines().find_map(|line| line.trim_start().strip_prefix(&start));
+        let digits = line.and_then(|line| line.split([',', ' ']).next());
+        digits.and_then(|digits| digits.parse().ok()).unwrap_or_else(|| panic!("no refusal {name} in the header"))
+    };
+    assert_eq!(["LINE", "NUMBER", "SEGS"].map(named), [refusal::LINE, refusal::NUMBER, refusal::SEGS]);
+    assert_eq!(["PLAN", "SUMMARY", "ROOM"].map(named), [refusal::PLAN, refusal::SUMMARY, refusal::ROOM]);
+    assert_eq!(["STATE", "READS", "EXTENTS"].map(named), [refusal::STATE, refusal::READS, refusal::EXTENTS]);
+    assert_eq!(HEADER.matches("    JEMQOLU_REFUSED_").count(), 9);
 }

@@ -1,7 +1,7 @@
 // A session kept in lent words.
 ghost use mathlib.Core.Path.{_≡_};
-ghost use Rattle.capi_answers.specs.Answers.{counted, told, sumsLeft};
-ghost use Rattle.session_words.specs.Calls.{newSession, readIn, sessionLeft, summaryIn};
+ghost use Rattle.capi_answers.specs.Answers.{counted, missed, shared, shareLeft, told, sumsLeft};
+ghost use Rattle.session_words.specs.Calls.{newSession, readIn, sessionLeft, summaryIn, missesIn, shareIn};
 
 // A new session's words at the front of the row: how many.
 #[no_mangle]
@@ -30,4 +30,22 @@ pub extern "C" fn jemqolu_session_summary(session: &[u32], out: &mut [u32]) -> i
 {
     let w = session_words::summary(session, out);
     capi_answers::count(w)
+}
+
+// The misses of a cache of this size that reads the log of the session in the words.
+#[no_mangle]
+pub extern "C" fn jemqolu_session_misses(session: &[u32], size: u32) -> i64
+    ensures { λ r. ⌜ r ≡ missed (missesIn (now (session .entry)) size) ⌝ }
+{
+    let m = session_words::misses(session, size);
+    capi_answers::misses(m)
+}
+
+// The hit share of such a cache, left in its place: 1, or 0 for 'no reads'.
+#[no_mangle]
+pub extern "C" fn jemqolu_session_share(session: &[u32], size: u32, share: &mut f64) -> i64
+    ensures { λ r. ⌜ (r ≡ shared (shareIn (now (session .entry)) size)) × (now (share .exit) ≡ shareLeft (shareIn (now (session .entry)) size) (now (share .entry))) ⌝ }
+{
+    let s = session_words::share(session, size);
+    capi_answers::share(s, share)
 }

@@ -10,6 +10,8 @@ use Rattle.reuse.specs.Limits.{maxExtents, slotCount, sumCount}
 use Rattle.reuse_rows.specs.Rows.{putAt}
 use Rattle.reuse_copies.proofs.Puts.{put-length}
 use Rattle.summary_calls.specs.declared.Written.the-variants.{Words}
+use Rattle.summary_calls.specs.declared.MissCount.the-variants.{Refused as NoMisses}
+use Rattle.summary_calls.specs.declared.ShareAnswer.the-variants.{Refused as NoShare}
 use Rattle.summary_calls.specs.Calls.{refused}
 use Rattle.summary_calls.proofs.Calls.{wrote-short, wrote-all}
 use Rattle.session.specs.declared.Session.{Session}
@@ -18,9 +20,9 @@ use Rattle.session.specs.declared.Answer.the-variants.{Cold, Distance, Refused}
 use Rattle.session.specs.Sessions.{fresh}
 use Rattle.session_soundness.specs.Soundness.{Wide}
 use Rattle.session.specs.Reads.{turnedAway, readOf}
-use Rattle.session_summary.specs.Summaries.{summaryCall}
+use Rattle.session_summary.specs.Summaries.{summaryCall, missesCall, shareCall}
 use Rattle.session_words.specs.Layout.{sessionLength, sessionIn, sessionLaid}
-use Rattle.session_words.specs.Calls.{newSession, readIn, sessionLeft, summaryIn, isRead}
+use Rattle.session_words.specs.Calls.{newSession, readIn, sessionLeft, summaryIn, missesIn, shareIn, isRead}
 use Rattle.session_words.proofs.Laid.{laid-length, laid-read}
 
 -- the rows of a new session
@@ -49,6 +51,15 @@ module _ (w : List ℕ) where
     unfolding summaryIn
     summary-short buffer = simp (lt-leb sessionLength (length w) few)
 
+    -- none to count misses or hits of
+    pub misses-short : (c : ℕ) → missesIn w c ≡ NoMisses 7
+    unfolding missesIn
+    misses-short c = simp (lt-leb sessionLength (length w) few)
+
+    pub share-short : (c : ℕ) → shareIn w c ≡ NoShare 7
+    unfolding shareIn
+    share-short c = simp (lt-leb sessionLength (length w) few)
+
   module _ (enough : sessionLength ≤ length w) where
     -- a new session is written
     pub new-all : newSession w ≡ record { answer = Words sessionLength; buffer = putAt w 0 (sessionLaid fresh) }
@@ -64,6 +75,15 @@ module _ (w : List ℕ) where
     pub summary-all : (buffer : List ℕ) → summaryIn w buffer ≡ summaryCall (sessionIn w) buffer
     unfolding summaryIn
     summary-all buffer = simp (le-leb sessionLength (length w) enough)
+
+    -- its misses and its hits are counted
+    pub misses-all : (c : ℕ) → missesIn w c ≡ missesCall (sessionIn w) c
+    unfolding missesIn
+    misses-all c = simp (le-leb sessionLength (length w) enough)
+
+    pub share-all : (c : ℕ) → shareIn w c ≡ shareCall (sessionIn w) c
+    unfolding shareIn
+    share-all c = simp (le-leb sessionLength (length w) enough)
 
 -- a session laid into words reads as it does by itself
 pub read-kept : (s : Session) → Wide (s .first) (s .hist) (s .slots) (s .sums) → (w : List ℕ) → sessionLength ≤ length w → (x : ℕ)

@@ -1,13 +1,15 @@
 // A session kept in lent words.
 use session::Answer;
 use session::Session;
+use summary_calls::MissCount;
+use summary_calls::ShareAnswer;
 use summary_calls::Written;
 ghost use mathlib.Core.Path.{_≡_};
 ghost use Prim.Native.Nat.{_≤_};
 ghost use lib.ListN.{length};
 ghost use Rattle.reuse_rows.specs.Rows.{putAt};
 ghost use Rattle.session_words.specs.Layout.{sessionLength, sessionIn, sessionLaid};
-ghost use Rattle.session_words.specs.Calls.{newSession, readIn, sessionLeft, summaryIn, isRead};
+ghost use Rattle.session_words.specs.Calls.{newSession, readIn, sessionLeft, summaryIn, missesIn, shareIn, isRead};
 
 // Where F, H, the slots, the sums and the next slot stand in a session's words, after its reads.
 const FIRST: usize = 1;
@@ -114,4 +116,26 @@ pub fn summary(words: &[u32], out: &mut [u32]) -> Written
     }
     let s = session_in(words);
     session_summary::summary(s, out)
+}
+
+// The misses of a cache of this size that reads the log of the session in the words.
+pub fn misses(words: &[u32], size: u32) -> MissCount
+    ensures { λ r. ⌜ r ≡ missesIn (now (words .entry)) size ⌝ }
+{
+    if words.len() < SESSION {
+        return MissCount::Refused(7);
+    }
+    let s = session_in(words);
+    session_summary::misses(s, size)
+}
+
+// The hit share of a cache of this size that reads the log of the session in the words.
+pub fn share(words: &[u32], size: u32) -> ShareAnswer
+    ensures { λ r. ⌜ r ≡ shareIn (now (words .entry)) size ⌝ }
+{
+    if words.len() < SESSION {
+        return ShareAnswer::Refused(7);
+    }
+    let s = session_in(words);
+    session_summary::share(s, size)
 }

@@ -1,7 +1,7 @@
 //! Sessions as words, in slots and sums.
 
 use super::summary;
-use super::{MAX_EXTENTS, MAX_READS};
+use super::{hit_share, MAX_EXTENTS, MAX_READS};
 use crate::{refusal, Answer};
 use std::ops::Range;
 
@@ -200,4 +200,23 @@ pub fn summary(words: &[u32]) -> Answer<Vec<u32>> {
     let words = parts.concat();
     assert!(summary::well_formed(&words).is_some(), "a sound session has a well-formed summary");
     Ok(words)
+}
+
+/// The reads of a distance above a size.
+fn above(words: &[u32], size: u32) -> u64 {
+    words[COUNTS].iter().skip(size as usize).map(|count| u64::from(*count)).sum()
+}
+
+/// The call for misses: the cold reads, one for each mark, and the reads of a distance above the size.
+pub fn misses(words: &[u32], size: u32) -> Answer<u64> {
+    if !sound(words) {
+        return Err(refusal::STATE);
+    }
+    Ok(marks(words).len() as u64 + above(words, size))
+}
+
+/// The call for the hit share.
+pub fn share(words: &[u32], size: u32) -> Answer<Option<f64>> {
+    let reads = words.first().map_or(0, |reads| u64::from(*reads));
+    misses(words, size).map(|misses| hit_share(reads - misses, reads))
 }
