@@ -1,6 +1,6 @@
 -- Worked examples: what `run` answers, computed from the definitions.
 use mathlib.Core.Path.{_≡_, refl, _∙_}
-use Prim.Native.Nat.{ℕ, _≤_}
+use Prim.Native.Nat.{ℕ, _*_, _≤_}
 use native.Mathlib.Omega.{arith}
 use mathlib.Core.List.{List, [], _∷_}
 use lib.ListN.{length}
@@ -12,7 +12,7 @@ use Rattle.summary_calls.specs.declared.Written.the-variants.{Words}
 use Rattle.texts.specs.Bytes.{bytes}
 use Rattle.texts.specs.Plans.{seg, join, last, depth, partsDepth, reads, partsReads}
 use Rattle.texts.proofs.Examples.{plans-read}
-use Rattle.plan_calls.specs.Calls.{cleared, fronted, runCall}
+use Rattle.plan_calls.specs.Calls.{levelWords, cleared, fronted, runCall}
 use Rattle.plan_calls.proofs.Carrying.{carried}
 
 -- the log 7 3 7 9 3 3 9
@@ -25,9 +25,9 @@ unfolding firsts remove
 seven-within = record { reads = omega arith; extents = omega arith }
 
 -- the paper's plan over the seven reads: two levels of work words, the summary's eleven words
-pub paper-run : (work out : List ℕ) → 3080 ≤ length work → 11 ≤ length out
+pub paper-run : (work out : List ℕ) → 2 * levelWords ≤ length work → 11 ≤ length out
     → runCall (bytes "(join\n (seg 4)\n (join\n  (seg 1)\n  (seg 2)))\n") seven work out
-    ≡ record { answer = Words 11; work = cleared 3080 work; out = fronted (7 ∷ 3 ∷ 7 ∷ 3 ∷ 9 ∷ 9 ∷ 3 ∷ 7 ∷ 1 ∷ 2 ∷ 1 ∷ []) out }
+    ≡ record { answer = Words 11; work = cleared (2 * levelWords) work; out = fronted (7 ∷ 3 ∷ 7 ∷ 3 ∷ 9 ∷ 9 ∷ 3 ∷ 7 ∷ 1 ∷ 2 ∷ 1 ∷ []) out }
 unfolding reads partsReads depth partsDepth firsts remove
 paper-run work out h k =
     carried (bytes "(join\n (seg 4)\n (join\n  (seg 1)\n  (seg 2)))\n") seven work out (join (seg 4) (last (join (seg 1) (last (seg 2))))) (plans-read .0) refl seven-within 2 refl h k ∙ rw seven-summary
