@@ -18,7 +18,7 @@ use Rattle.plan_reader.specs.declared.forms.Found.the-variants.{Read, Re
 use Rattle.plan_reader.specs.Answers.{FormWithin, FormIs, PartsIs}
 
 -- what is read from a later position on is read from an earlier one on, under fewer joins
-pub form-from : (at later len most under under′ limit limit′ base base′ : ℕ) (f : Found) → at ≤ later → limit′ + under ≤ limit + under′ → base′ + 1048576 * at ≤ base + 1048576 * later
+pub form-from : (at later len most under under′ limit limit′ base base′ : ℕ) (f : Found) → at ≤ later → limit′ + under ≤ limit + under′ → base′ + maxSeg * at ≤ base + maxSeg * later
     → FormWithin later len most under′ limit′ base′ f → FormWithin at len most under limit base f
 form-from at later len most under under′ limit limit′ base base′ (Read total deep closes next) h g k w = (omega arith, w .1, w .2, omega arith, omega arith)
 form-from at later len most under under′ limit limit′ base base′ (Refused n) h g k w = tt

@@ -1,4 +1,4 @@
--- Reuse distances: the place in the published LRU stack, and the same number counted on the trace.
+-- Reuse distances: the place in the published LRU stack, and the same number counted on the trace (the papers' log).
 use Prim.Native.Nat.{ℕ, suc, _+_}
 use mathlib.Core.List.{List, [], _∷_, _++_, foldl}
 use mathlib.Core.Bool.{Bool, true, false, cond}

@@ -1,5 +1,5 @@
--- Tables of words: each word falls to one of 4,096 places, by which it is looked up.
-use Prim.Native.Nat.{ℕ, suc, _*_, _/_, _%_, _≤_, min}
+-- Tables of words: each word falls to one of its places, by which it is looked up.
+use Prim.Native.Nat.{ℕ, suc, _*_, _^_, _/_, _%_, _≤_, min}
 use mathlib.Core.Path.{_≡_}
 use mathlib.Core.List.{List, [], _∷_, _++_}
 use mathlib.Core.Bool.{Bool, true, cond}
@@ -12,9 +12,17 @@ use Rattle.reuse.specs.Lists.{mem, distinct, firsts}
 abbrev pub tablePlaces : ℕ
 tablePlaces = 4_096
 
--- the place of a word: twelve binary digits of a product that spreads the multiples of a power of two
+-- what a word is multiplied by, so that the multiples of a power of two spread over the places
+abbrev pub tableFactor : ℕ
+tableFactor = 2_654_435_761
+
+-- what the product is divided by
+abbrev pub tableStep : ℕ
+tableStep = 2 ^ 32 / tablePlaces
+
+-- the place of a word: of the 32 lowest binary digits of the product, as many of the first as number the places
 unfoldable pub bucketOf : ℕ → ℕ
-bucketOf x = x * 2_654_435_761 / 1_048_576 % tablePlaces
+bucketOf x = x * tableFactor / tableStep % tablePlaces
 
 -- the table with these words noted at their places by their numbers, n and so on, a later word over an earlier one
 unfoldable pub hintsFrom : List ℕ → ℕ → List ℕ → List ℕ

@@ -5,22 +5,29 @@ ghost use mathlib.Core.List.{_++_};
 ghost use Prim.Native.Nat.{suc, min, _<_};
 ghost use lib.ListN.{length, take, drop};
 ghost use Rattle.reuse.specs.Limits.{maxExtents};
-ghost use Rattle.reuse.specs.Lists.{mem, allIn, distinct, firsts};
+ghost use Rattle.reuse.specs.Lists.{mem, allIn, beside, distinct, firsts};
+ghost use Rattle.reuse_rows.specs.Rows.{padded};
 ghost use Rattle.reuse_tables.specs.Tables.{tablePlaces, bucketOf, hintsOf, standsBy, lookedUp, Held, Counted};
 
 // The places of a table.
-pub const PLACES: usize = 4096;
+const PLACES: usize = 4096;
+
+// What a word is multiplied by, so that the multiples of a power of two spread over the places.
+const FACTOR: u64 = 2654435761;
+
+// What the product is divided by: 2^32 over the places.
+const STEP: u64 = 4294967296 / PLACES as u64;
 
 // The place that a word falls to.
 fn bucket(x: u32) -> usize
     ensures { λ r. ⌜ (r ≡ bucketOf x) × (r < tablePlaces) ⌝ }
 {
-    (x as u64 * 2654435761 / 1048576 % 4096) as usize
+    (x as u64 * FACTOR / STEP) as usize % PLACES
 }
 
 // For each place of a table, which word was the last to fall there, 1 for the first word; 0 where none did.
 // Words past the limit of extents are not noted.
-pub fn hints(words: &[u32]) -> [u32; PLACES]
+fn hints(words: &[u32]) -> [u32; PLACES]
     ensures { λ r. ⌜ r ≡ hintsOf (now (words .entry)) ⌝ }
 {
     let mut n = words.len();
@@ -38,7 +45,7 @@ pub fn hints(words: &[u32]) -> [u32; PLACES]
 }
 
 // Whether x stands among the words, by the table that `hints` makes of them.
-pub fn known(words: &[u32], hints: &[u32; PLACES], x: u32) -> bool
+fn known(words: &[u32], hints: &[u32; PLACES], x: u32) -> bool
     ensures { λ r. ⌜ r ≡ lookedUp (now (words .entry)) (now (hints .entry)) x ⌝ }
 {
     let h = bucket(x);
@@ -104,6 +111,29 @@ pub fn all_in(words: &[u32], among: &[u32]) -> bool
         i = i + 1;
     }
     true
+}
+
+// The words, then those of `more` that do not stand among them, as F and R of a join are: as many as the limit of extents,
+// and 0 after them.
+pub fn beside(words: &[u32], more: &[u32]) -> [u32; MAX_EXTENTS]
+    ensures { λ r. ⌜ r ≡ padded (beside (now (words .entry)) (now (more .entry))) ⌝ }
+{
+    let table = hints(words);
+    let mut row = reuse_copies::padded(words);
+    let mut n = words.len();
+    let mut i: usize = 0;
+    while i < more.len() {
+        let x = more[i];
+        if !known(words, &table, x) {
+            if MAX_EXTENTS <= n {
+                return row;
+            }
+            row[n] = x;
+            n = n + 1;
+        }
+        i = i + 1;
+    }
+    row
 }
 
 // How many different extents two traces have, one read after the other, counted to one more than the limit.

@@ -8,7 +8,7 @@ use lib.ListN.{length, take, replicate, length-reverse}
 use lib.Seq.{length-take-le}
 use Rattle.reuse.specs.Lists.{mem, sum}
 use Rattle.reuse.specs.Limits.{maxReads, maxExtents, slotCount, levels}
-use Rattle.session_sums.specs.Sums.{sumsOf, Trued}
+use Rattle.session_sums.specs.Sums.{sumsOf, marksIn, Trued}
 use Rattle.session_marks.specs.Marks.{marked}
 use Rattle.session_soundness.specs.Soundness.{Wide}
 use Rattle.session.specs.declared.Session.{Session}
@@ -31,7 +31,7 @@ pub record Sound (s : Session) : Type 0 where
 -- the marks under sums that were made over them
 pub marks-of : (s : Session) (ms : List ℕ) → s .sums ≡ sumsOf levels ms → length ms ≡ slotCount → marks s ≡ ms
 unfolding marks
-marks-of s ms e w = ap (take slotCount) e ∙ take-sums levels slotCount ms w
+marks-of s ms e w = ap (marksIn) e ∙ take-sums levels slotCount ms w
 
 -- a session over sound rows
 pub kept-of : (s : Session) (ms : List ℕ) → s .sums ≡ sumsOf levels ms → Rows slotCount maxExtents ms (s .slots) (s .first) (s .hist) (s .next) (s .reads) → Kept s
@@ -63,7 +63,7 @@ module _ (s : Session) (k : Kept s) where
   unfolding firstRow stackOf extents marks
   kept-listed y = fields.kept-listed (s .reads) (s .first) (s .hist) (s .slots) (s .sums) (s .next) kept-fields y
 
-  -- at most 256 marks
+  -- no more marks than the limit of extents
   pub kept-few : extents s ≤ maxExtents
   unfolding extents
   kept-few = k .rows .few

@@ -27,7 +27,7 @@ gathered s =
       next = extents s;
     }
 
--- with room for one more: gathered where next is 512
+-- with room for one more: gathered where no slot is left
 unfoldable pub roomed : Session → Session
 roomed s = cond (eqb (s .next) slotCount) (gathered s) s
 

@@ -5,6 +5,7 @@ use mathlib.Core.Bool.{Bool}
 use lib.ListN.{take, replicate}
 use Rattle.reuse.specs.Lists.{sum}
 use Rattle.reuse.specs.Limits.{maxExtents, slotCount, sumCount}
+use Rattle.session_sums.specs.Sums.{marksIn}
 use Rattle.session_marks.specs.Marks.{marked}
 use Rattle.session_soundness.specs.Soundness.{soundRows}
 use Rattle.session.specs.declared.Session.{Session}
@@ -22,7 +23,7 @@ fresh = record {
 
 -- the leaves of the sums: 1 where the slot is marked
 unfoldable pub marks : Session → List ℕ
-marks s = take slotCount (s .sums)
+marks s = marksIn (s .sums)
 
 -- v: how many slots are marked
 unfoldable pub extents : Session → ℕ

@@ -1,26 +1,28 @@
 // A session: a trace taken read by read.
 ghost use mathlib.Core.Path.{_≡_};
 ghost use Prim.Native.Nat.{suc, _≤_, _<_};
-ghost use lib.ListN.{take, drop, set};
+ghost use lib.ListN.{drop, set};
 ghost use Rattle.reuse.specs.Lists.{sum};
 ghost use Rattle.reuse.specs.Lru.{cold, at};
 ghost use Rattle.reuse.specs.Limits.{slotCount, levels};
-ghost use Rattle.session_sums.specs.Sums.{sumsOf, Trued};
+ghost use Rattle.session_sums.specs.Sums.{sumsOf, marksIn, Trued};
 ghost use Rattle.session.specs.Sessions.{fresh, marks, sound};
 ghost use Rattle.session.specs.Reads.{gathered, stepAt, turnedAway, readOf};
 ghost use Rattle.session.specs.Steps.{Gatherable, Movable, Enterable};
+use reuse::MAX_EXTENTS;
 use reuse::SLOTS;
+use reuse::SUMS;
 
 // The place of the sum over all marks.
-const ROOT: usize = reuse::SUMS - 1;
+const ROOT: usize = SUMS - 1;
 
 // L, F and H, the slots with the sums over their marks, and the next slot.
 pub struct Session {
     pub reads: u32,
-    pub first: [u32; 256],
-    pub hist: [u32; 256],
-    pub slots: [u32; 512],
-    pub sums: [u32; 1023],
+    pub first: [u32; MAX_EXTENTS],
+    pub hist: [u32; MAX_EXTENTS],
+    pub slots: [u32; SLOTS],
+    pub sums: [u32; SUMS],
     pub next: u32,
 }
 
@@ -38,9 +40,9 @@ pub struct Step {
 }
 
 // The leaf s becomes v (0 or 1), and every sum over it changes by as much.
-fn put_mark(sums: &mut [u32; 1023], s: usize, v: u32)
+fn put_mark(sums: &mut [u32; SUMS], s: usize, v: u32)
     requires { ⌜ (s < slotCount) × (v ≤ 1) × Trued levels slotCount (now sums) ⌝ }
-    ensures { λ _. ⌜ now (sums .exit) ≡ sumsOf levels (set (take slotCount (now (sums .entry))) s v) ⌝ }
+    ensures { λ _. ⌜ now (sums .exit) ≡ sumsOf levels (set (marksIn (now (sums .entry))) s v) ⌝ }
 {
     let old = sums[s];
     let mut p = s;

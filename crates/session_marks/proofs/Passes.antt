@@ -10,7 +10,7 @@ use lib.ListN.{length, take, drop, getD, set, replicate, length-append}
 use lib.Seq.{take-all, drop-cons, slice-cons}
 use borrow.Author.Tests.{eq-eqb, ne-eqb, le-leb, lt-leb}
 use Rattle.reuse.specs.Limits.{slotCount}
-use Rattle.session_sums.specs.Sums.{filled}
+use Rattle.session_sums.specs.Sums.{marksIn, filled}
 use Rattle.session_marks.specs.Marks.{marked, tidy, paired, gatheredRow}
 use Rattle.reuse.proofs.Lists.{by-test}
 use Rattle.session_sums.proofs.Filled.{filled-more, filled-none}
@@ -95,7 +95,7 @@ moved-end N ms xs out n i b h =
     b .moved ∙ ap (λ (k : ℕ). filled N (marked (take k ms) (take k xs))) at ∙ ap (λ (l : List ℕ). filled N (marked (take N ms) l)) (take-all N xs (omega (arith, b .wide)))
 
 -- what is gathered from a session's rows
-pub gathered-pair : (xs ms : List ℕ) → paired xs ms ≡ true → gatheredRow xs ms ≡ filled slotCount (marked (take slotCount ms) xs)
+pub gathered-pair : (xs ms : List ℕ) → paired xs ms ≡ true → gatheredRow xs ms ≡ filled slotCount (marked (marksIn ms) xs)
 unfolding gatheredRow
 gathered-pair xs ms h = rw h
 

@@ -6,10 +6,11 @@ use Prim.Native.Nat.{ℕ, zero, suc, _-_, _≤_, _<_}
 use native.Mathlib.Omega.{arith}
 use native.Mathlib.Decide.{ℕ-discrete}
 use lib.Dec.{eqb}
-use lib.ListN.{length, take, getD}
+use lib.ListN.{length, getD}
 use lib.Seq.{getD-take, length-take-le}
 use borrow.Author.Tests.{eq-eqb, ne-eqb, eqb-true, le-leb, lt-leb}
 use Rattle.reuse.specs.Limits.{slotCount, sumCount}
+use Rattle.session_sums.specs.Sums.{marksIn}
 use Rattle.session_marks.specs.Marks.{slotFrom, paired, lastBelow, foundSlot, Searched}
 use Rattle.reuse.proofs.Lists.{clash, by-test, both}
 use Rattle.reuse.proofs.Sums.{free-at}
@@ -71,16 +72,16 @@ module _ (xs ms : List ℕ) (next x : ℕ) where
 
   module _ (s : Searched xs ms next) where
     -- there are as many marks as slots
-    wide : length (take slotCount ms) ≡ slotCount
+    wide : length (marksIn ms) ≡ slotCount
     wide = length-take-le slotCount ms (omega (arith, s .sums-wide))
 
     -- the slots beside their marks
-    row : Row (take slotCount ms) xs
-    row = tidy-row (take slotCount ms) xs (s .slots-wide ∙ sym wide) (s .neat)
+    row : Row (marksIn ms) xs
+    row = tidy-row (marksIn ms) xs (s .slots-wide ∙ sym wide) (s .neat)
 
     -- no slot from i on holds x beside a mark
     abbrev Beyond : ℕ → Type 0
-    Beyond i = (k : ℕ) → i ≤ k → getD (take slotCount ms) k 0 ≡ 1 → getD xs k 0 ≡ x → ⊥
+    Beyond i = (k : ℕ) → i ≤ k → getD (marksIn ms) k 0 ≡ 1 → getD xs k 0 ≡ x → ⊥
 
     -- one slot more
     beyond : (i : ℕ) → i < slotCount → eqb (getD xs i 0) x && eqb (getD ms i 0) 1 ≡ false → Beyond (suc i) → Beyond i
@@ -89,12 +90,12 @@ module _ (xs ms : List ℕ) (next x : ℕ) where
         by : Dec (k ≡ i) → ⊥
         by (yes q) =
             let at-x : getD xs i 0 ≡ x = ap (λ (n : ℕ). getD xs n 0) (sym q) ∙ e in
-            let at-m : getD ms i 0 ≡ 1 = sym (getD-take slotCount ms i 0 l) ∙ ap (λ (n : ℕ). getD (take slotCount ms) n 0) (sym q) ∙ m in
+            let at-m : getD ms i 0 ≡ 1 = sym (getD-take slotCount ms i 0 l) ∙ ap (λ (n : ℕ). getD (marksIn ms) n 0) (sym q) ∙ m in
             clash (simp (eq-eqb (getD xs i 0) x at-x, eq-eqb (getD ms i 0) 1 at-m)) f
         by (no q) = all k (omega arith) m e
 
     -- where no slot from i on does, the search below i finds the slot
-    last-slot : (i : ℕ) → i ≤ slotCount → Beyond i → lastBelow xs ms x i ≡ slotFrom (take slotCount ms) xs x
+    last-slot : (i : ℕ) → i ≤ slotCount → Beyond i → lastBelow xs ms x i ≡ slotFrom (marksIn ms) xs x
     unfolding lastBelow
     last-slot zero l all = sym (slot-none row x (λ k m e. all k (omega arith) m e) ∙ wide)
     last-slot (suc i) l all =
@@ -104,7 +105,7 @@ module _ (xs ms : List ℕ) (next x : ℕ) where
         (λ f. simp f (last-slot i (omega arith) (beyond i (omega arith) f all)))
 
     -- so it finds the slot of x
-    pub found-slot : foundSlot xs ms next x ≡ slotFrom (take slotCount ms) xs x
+    pub found-slot : foundSlot xs ms next x ≡ slotFrom (marksIn ms) xs x
     found-slot =
         found-pair (pair-of xs ms (s .slots-wide) (s .sums-wide)) (s .low)
-        ∙ last-slot next (s .low) (λ k h m e. omega (arith, free-at (take slotCount ms) next k (s .free) h))
+        ∙ last-slot next (s .low) (λ k h m e. omega (arith, free-at (marksIn ms) next k (s .free) h))

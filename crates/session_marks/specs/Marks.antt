@@ -4,14 +4,10 @@ use mathlib.Core.Path.{_≡_}
 use mathlib.Core.List.{List, [], _∷_}
 use mathlib.Core.Bool.{Bool, true, cond, _&&_, _||_}
 use lib.Dec.{eqb, leb}
-use lib.ListN.{length, take, drop, getD}
+use lib.ListN.{length, drop, getD}
 use Rattle.reuse.specs.Limits.{slotCount, sumCount}
 use Rattle.reuse.specs.Lists.{distinct, sum}
-use Rattle.session_sums.specs.Sums.{filled}
-
--- the leaves of the sums: 1 where the slot is marked
-abbrev pub marksIn : List ℕ → List ℕ
-marksIn sums = take slotCount sums
+use Rattle.session_sums.specs.Sums.{marksIn, filled}
 
 -- the extents of the marked slots, in the slots' order
 unfoldable pub marked : List ℕ → List ℕ → List ℕ

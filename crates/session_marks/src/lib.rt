@@ -14,7 +14,7 @@ fn paired<'a>(slots: &'a [u32], sums: &'a [u32]) -> bool
     sums.len() == SUMS
 }
 
-// The marked slot below next that holds x, or 512: the newest slots first. None in rows of another length.
+// The marked slot below next that holds x, or the number of slots: the newest slots first. None in rows of another length.
 pub fn find<'a>(slots: &'a [u32], sums: &'a [u32], next: usize, x: u32) -> usize
     ensures { λ r. ⌜ r ≡ foundSlot (now (slots .entry)) (now (sums .entry)) next x ⌝ }
 {

@@ -8,7 +8,8 @@ use lib.ListN.{length}
 use borrow.Author.Tests.{eqb-true, eq-eqb, ne-eqb}
 use Rattle.reuse.specs.Limits.{maxReads, maxExtents, slotCount}
 use Rattle.reuse.specs.Lists.{mem}
-use Rattle.session_marks.specs.Marks.{marked, marksIn, foundSlot, Searched}
+use Rattle.session_sums.specs.Sums.{marksIn}
+use Rattle.session_marks.specs.Marks.{marked, foundSlot, Searched}
 use Rattle.session_soundness.specs.Soundness.{extentsIn, stackIn, intactRows, Wide}
 use Rattle.session_refusals.specs.Refusals.{overfull, refusalOf}
 use Rattle.reuse.proofs.Lists.{by-test, both, mem-reverse}

@@ -9,8 +9,8 @@ use lib.Seq.{length-take-le}
 use borrow.Author.Tests.{eq-eqb, eqb-true, leb-true, le-leb}
 use Rattle.reuse.specs.Lists.{mem, distinct, sum}
 use Rattle.reuse.specs.Limits.{maxReads, maxExtents, slotCount, sumCount, levels}
-use Rattle.session_sums.specs.Sums.{sumsOf}
-use Rattle.session_marks.specs.Marks.{marked, paired, marksIn}
+use Rattle.session_sums.specs.Sums.{sumsOf, marksIn}
+use Rattle.session_marks.specs.Marks.{marked, paired}
 use Rattle.session_soundness.specs.Soundness.{extentsIn, stackIn, firstIn, soundRows, intactRows, Wide}
 use Rattle.reuse.proofs.Lists.{by-test, both, mem-reverse}
 use Rattle.reuse.proofs.Distinct.{distinct-reverse}

@@ -11,8 +11,8 @@ use borrow.Author.Tests.{leb-true, le-leb, eq-eqb}
 use Rattle.reuse.specs.Lists.{mem, distinct, allIn, sum}
 use Rattle.reuse.specs.Limits.{maxReads, maxExtents, slotCount, sumCount, levels}
 use Rattle.reuse_rows.specs.Rows.{blank}
-use Rattle.session_sums.specs.Sums.{sumsOf, same, trueSums, filled}
-use Rattle.session_marks.specs.Marks.{marked, tidy, gatheredRow, marksIn}
+use Rattle.session_sums.specs.Sums.{sumsOf, marksIn, same, trueSums, filled}
+use Rattle.session_marks.specs.Marks.{marked, tidy, gatheredRow}
 use Rattle.session_soundness.specs.Soundness.{extentsIn, soundRows, Wide, marksHold}
 use Rattle.reuse.proofs.Lists.{clash, by-test, both}
 use Rattle.reuse.proofs.Sizes.{full-distinct, full-same, all-in, in-all}

@@ -8,8 +8,8 @@ use lib.ListN.{length, take, drop}
 use Rattle.reuse.specs.Lists.{distinct, allIn, sum}
 use Rattle.reuse.specs.Limits.{maxReads, maxExtents, slotCount, sumCount, levels}
 use Rattle.reuse_rows.specs.Rows.{blank}
-use Rattle.session_sums.specs.Sums.{sumsOf, same, trueSums}
-use Rattle.session_marks.specs.Marks.{marked, tidy, paired, marksIn}
+use Rattle.session_sums.specs.Sums.{sumsOf, marksIn, same, trueSums}
+use Rattle.session_marks.specs.Marks.{marked, tidy, paired}
 
 -- v: how many slots are marked
 abbrev pub extentsIn : List ℕ → ℕ
@@ -26,10 +26,10 @@ firstIn first sums = take (extentsIn sums) first
 -- what 01 asks of a sound session, clause by clause
 unfoldable pub soundRows : ℕ → List ℕ → List ℕ → List ℕ → List ℕ → ℕ → Bool
 soundRows reads first hist slots sums next =
-    -- at most 256 marks, all below next
+    -- no more marks than the limit of extents, all below next
     leb (extentsIn sums) maxExtents
     && blank (drop next (marksIn sums))
-    -- next at most 512
+    -- next at most the number of slots
     && leb next slotCount
     -- different extents in the marked slots, and 0 in the others
     && distinct (stackIn slots sums)
@@ -43,7 +43,7 @@ soundRows reads first hist slots sums next =
     && same sums (sumsOf levels (marksIn sums))
     -- H 0 above v
     && blank (drop (extentsIn sums) hist)
-    -- L equal to v plus the sum of H, and at most 1,048,576
+    -- L equal to v plus the sum of H, and at most the limit of reads
     && eqb reads (extentsIn sums + sum hist)
     && leb reads maxReads
 

@@ -2,7 +2,8 @@
 ghost use mathlib.Core.Path.{_≡_};
 ghost use lib.ListN.{length};
 ghost use Rattle.reuse.specs.Limits.{slotCount, sumCount};
-ghost use Rattle.session_marks.specs.Marks.{marksIn, tidy};
+ghost use Rattle.session_sums.specs.Sums.{marksIn};
+ghost use Rattle.session_marks.specs.Marks.{tidy};
 ghost use Rattle.session_soundness.specs.Soundness.{Wide, marksHold, soundRows, intactRows};
 use reuse::MAX_EXTENTS;
 use reuse::MAX_READS;

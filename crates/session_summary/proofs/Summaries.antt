@@ -15,7 +15,7 @@ use Rattle.reuse_rows.specs.Rows.{padded}
 use Rattle.summary_calls.specs.declared.Written.{Written}
 use Rattle.summary_calls.specs.declared.MissCount.the-variants.{Misses}
 use Rattle.summary_calls.specs.declared.ShareAnswer.the-variants.{Answered}
-use Rattle.summary_calls.specs.Calls.{Wrote, wrote, refused, wordsCall, shareOf}
+use Rattle.summary_calls.specs.Calls.{Wrote, wrote, refused, wordsCall, shareAt}
 use Rattle.session.specs.declared.Session.{Session}
 use Rattle.session_sums.specs.Sums.{filled}
 use Rattle.session_marks.specs.Marks.{marked, gatheredRow}
@@ -103,7 +103,7 @@ pub misses-cache : (s : Session) (t : List ℕ) (c : ℕ) → Stands s t → mis
 misses-cache s t c g = misses-trace s t c g ∙ ap Misses (summary-cache c t)
 
 -- its share is that of the trace's summary
-pub share-trace : (s : Session) (t : List ℕ) (c : ℕ) → Stands s t → shareCall s c ≡ Answered (shareOf (hitsOf (summaryOf t) c) (readsOf (summaryOf t)))
+pub share-trace : (s : Session) (t : List ℕ) (c : ℕ) → Stands s t → shareCall s c ≡ Answered (shareAt (summaryOf t) c)
 unfolding shareCall
 share-trace s t c g = simp (g .is-sound, session-summary s t g)
 
@@ -117,7 +117,7 @@ module _ (s : Session) (w : Wide (s .first) (s .hist) (s .slots) (s .sums)) (ok 
   rows : Kept s
   rows = rows-of s w ok
 
-  -- v is at most 256
+  -- v is within the limit
   pub root-few : root s ≤ maxExtents
   root-few = omega (arith, kept-root s rows, kept-few s rows)
 

@@ -3,12 +3,12 @@ use Prim.Native.Nat.{ℕ}
 use mathlib.Core.Bool.{cond}
 use mathlib.Core.List.{List}
 use lib.ListN.{take}
-use Rattle.reuse.specs.Summary.{words, readsOf, hitsOf, missesOf}
+use Rattle.reuse.specs.Summary.{words, missesOf}
 use Rattle.summary_calls.specs.declared.MissCount.{MissCount}
 use Rattle.summary_calls.specs.declared.MissCount.the-variants.{Misses, Refused as NoMisses}
 use Rattle.summary_calls.specs.declared.ShareAnswer.{ShareAnswer}
 use Rattle.summary_calls.specs.declared.ShareAnswer.the-variants.{Answered, Refused as NoShare}
-use Rattle.summary_calls.specs.Calls.{Wrote, wrote, refused, shareOf}
+use Rattle.summary_calls.specs.Calls.{Wrote, wrote, refused, shareAt}
 use Rattle.session.specs.declared.Session.{Session}
 use Rattle.session.specs.Sessions.{sound, extents, stackOf, firstRow}
 
@@ -26,5 +26,4 @@ missesCall s c = cond (sound s) (Misses (missesOf (sessionWords s) c)) (NoMisses
 
 -- the hit share at size c, or 7
 unfoldable pub shareCall : Session → ℕ → ShareAnswer
-shareCall s c =
-    cond (sound s) (Answered (shareOf (hitsOf (sessionWords s) c) (readsOf (sessionWords s)))) (NoShare 7)
+shareCall s c = cond (sound s) (Answered (shareAt (sessionWords s) c)) (NoShare 7)

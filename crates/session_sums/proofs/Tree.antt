@@ -7,7 +7,7 @@ use lib.ListN.{length, take, getD, replicate, length-append, length-set, set, re
 use lib.Seq.{getD-append-add, take-length, take-append-seam}
 use Rattle.reuse.specs.Lists.{sum}
 use Rattle.reuse.specs.Limits.{slotCount, sumCount, levels}
-use Rattle.session_sums.specs.Sums.{pairs, sumsOf, Trued}
+use Rattle.session_sums.specs.Sums.{pairs, sumsOf, marksIn, Trued}
 use Rattle.reuse.proofs.Sums.{sum-set}
 
 -- how many leaves a full tree of depth d has
@@ -142,4 +142,4 @@ trued-of d N S ms t e few =
 
 -- true sums over all slots are as many as a session has
 pub trued-wide : (S : List ℕ) → Trued levels slotCount S → length S ≡ sumCount
-trued-wide S t = ap length (t .true-sums) ∙ omega (arith, length-sums levels (take slotCount S) (t .full ∙ sym full), full)
+trued-wide S t = ap length (t .true-sums) ∙ omega (arith, length-sums levels (marksIn S) (t .full ∙ sym full), full)

@@ -11,7 +11,7 @@ use mathlib.Core.Logic.{_≢_}
 use borrow.Author.Tests.{eqb-true, eqb-false, eq-eqb, ne-eqb, lt-ltb, le-ltb}
 use Rattle.reuse.specs.Lists.{sum}
 use Rattle.reuse.specs.Limits.{slotCount, sumCount, levels}
-use Rattle.session_sums.specs.Sums.{pairs, sumsOf, zeros, neighbours, Trued}
+use Rattle.session_sums.specs.Sums.{pairs, sumsOf, marksIn, zeros, neighbours, Trued}
 use Rattle.session_sums.specs.Walks.{walkedUp}
 use Rattle.reuse.proofs.Lists.{by-test}
 use Rattle.reuse.proofs.Sums.{sum-drop}
@@ -108,7 +108,7 @@ neighbours-few N (suc d) p =
 
 -- a walk over true sums reads the marks behind the slot, and as many sums as its number has zeros
 pub walked-trued : (S : List ℕ) (s : ℕ) → Trued levels slotCount S → s < slotCount
-    → walkedUp S s ≡ record { total = sum (drop (suc s) (take slotCount S)); count = zeros levels s }
+    → walkedUp S s ≡ record { total = sum (drop (suc s) (marksIn S)); count = zeros levels s }
 unfolding walkedUp
 walked-trued S s t h =
     rw (

@@ -36,9 +36,13 @@ same [] (y ∷ ys) = false
 same (x ∷ xs) [] = false
 same (x ∷ xs) (y ∷ ys) = eqb x y && same xs ys
 
+-- the leaves of the sums: 1 where the slot is marked
+abbrev pub marksIn : List ℕ → List ℕ
+marksIn sums = take slotCount sums
+
 -- as many words as a session has sums, and those over their leaves
 unfoldable pub trueSums : List ℕ → Bool
-trueSums sums = eqb (length sums) sumCount && same sums (sumsOf levels (take slotCount sums))
+trueSums sums = eqb (length sums) sumCount && same sums (sumsOf levels (marksIn sums))
 
 -- l, and 0 after it up to n words
 unfoldable pub filled : ℕ → List ℕ → List ℕ

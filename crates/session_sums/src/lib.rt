@@ -1,10 +1,10 @@
 // The tree of sums over a session's slots: walks from a leaf to the root, and whole trees.
 ghost use mathlib.Core.Path.{_≡_};
 ghost use Prim.Native.Nat.{_≤_};
-ghost use lib.ListN.{length, take};
+ghost use lib.ListN.{length};
 ghost use Rattle.reuse.specs.Lists.{sum};
 ghost use Rattle.reuse.specs.Limits.{slotCount, sumCount, levels};
-ghost use Rattle.session_sums.specs.Sums.{sumsOf, trueSums, firstMarks};
+ghost use Rattle.session_sums.specs.Sums.{sumsOf, marksIn, trueSums, firstMarks};
 ghost use Rattle.session_sums.specs.Walks.{walkedUp};
 use reuse::SLOTS;
 use reuse::SUMS;
@@ -50,8 +50,8 @@ pub fn above(sums: &[u32], s: usize) -> Walked
 
 // Every inner sum from its two children.
 fn rebuild(sums: &mut [u32; SUMS])
-    requires { ⌜ (length (now sums) ≡ sumCount) × (sum (take slotCount (now sums)) ≤ slotCount) ⌝ }
-    ensures { λ _. ⌜ now (sums .exit) ≡ sumsOf levels (take slotCount (now (sums .entry))) ⌝ }
+    requires { ⌜ (length (now sums) ≡ sumCount) × (sum (marksIn (now sums)) ≤ slotCount) ⌝ }
+    ensures { λ _. ⌜ now (sums .exit) ≡ sumsOf levels (marksIn (now (sums .entry))) ⌝ }
 {
     let mut i: usize = 0;
     while i < INNER {

@@ -64,6 +64,10 @@ missesCall w c = cond (wellFormed w) (Misses (missesOf w c)) (NoMisses 5)
 unfoldable pub shareOf : ℕ → ℕ → HitShare
 shareOf hits reads = cond (eqb reads 0) NoReads (Share (round binary64 false hits reads))
 
+-- the hit share at size c of a summary's words
+abbrev pub shareAt : List ℕ → ℕ → HitShare
+shareAt w c = shareOf (hitsOf w c) (readsOf w)
+
 -- the hit share at size c, or 5
 unfoldable pub shareCall : List ℕ → ℕ → ShareAnswer
-shareCall w c = cond (wellFormed w) (Answered (shareOf (hitsOf w c) (readsOf w))) (NoShare 5)
+shareCall w c = cond (wellFormed w) (Answered (shareAt w c)) (NoShare 5)

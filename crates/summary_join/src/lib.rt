@@ -64,7 +64,7 @@ fn first_of_both(a: &[u32], b: &[u32]) -> [u32; MAX_EXTENTS]
 {
     let ea = 2 + a[1] as usize;
     let eb = 2 + b[1] as usize;
-    summary_beside::beside(&a[2..ea], &b[2..eb])
+    reuse_tables::beside(&a[2..ea], &b[2..eb])
 }
 
 // R of the join, and 0 after it.
@@ -78,7 +78,7 @@ fn recent_of_both(a: &[u32], b: &[u32]) -> [u32; MAX_EXTENTS]
     let rb = 2 + vb;
     let ha = ra + va;
     let hb = rb + vb;
-    summary_beside::beside(&b[rb..hb], &a[ra..ha])
+    reuse_tables::beside(&b[rb..hb], &a[ra..ha])
 }
 
 // H of the join, and what is counted past it.

@@ -1,10 +1,13 @@
 -- Worked examples, computed from the definitions: the paper's texts read back, and one text for each way to be refused.
 use mathlib.Core.Path.{_≡_, refl}
-use Prim.Native.Nat.{ℕ, zero, suc, _≤_}
+use Prim.Native.Nat.{ℕ, zero, suc, _≤_, _<_}
+use native.Mathlib.Omega.{arith}
 use mathlib.Core.List.{List, [], _∷_, _++_}
-use mathlib.Core.Bool.{true}
+use mathlib.Core.Bool.{true, false}
 use lib.ListN.{length}
-use borrow.Author.Tests.{le-ltb}
+use borrow.Author.Tests.{le-ltb, lt-leb}
+use Rattle.reuse.specs.Limits.{maxReads, maxExtents}
+use Rattle.texts.specs.Limits.{maxExtent}
 use Rattle.texts.specs.Bytes.{bytes}
 use Rattle.texts.specs.Digits.{decimal, decimalBy, numberFrom, numberOf}
 use Rattle.texts.specs.Words.{wordAt, after, closesOf, endingOf}
@@ -163,23 +166,24 @@ pub logs-refused :
 unfolding logOf finish feed logFeed logStep headBy rowBy rowOf mem remove firsts unless lineDone byte feedBy finishBy after wordAt closesOf endingOf numberOf numberFrom
 logs-refused = (refl, refl, refl, refl, refl, refl, refl)
 
--- n different extents
-pub different : ℕ → List ℕ
-different zero = []
-different (suc n) = n ∷ different n
-
 -- the limit of different extents that one read more breaks
-pub extents-at-the-edge :
-    -- a 256th extent
-    (overRead (different 255) 255 ≡ 0)
-    -- 9: a 257th
-    × (overRead (different 256) 256 ≡ 9)
-    -- a known extent after 256
-    × (overRead (different 256) 7 ≡ 0)
-unfolding mem remove firsts different
-extents-at-the-edge = (refl, refl, refl)
+pub extents-at-the-edge : (t : List ℕ) (x : ℕ) → x ≤ maxExtent → length t < maxReads →
+    -- the last extent that there may be
+    (suc (length (firsts t)) ≡ maxExtents → mem x t ≡ false → overRead t x ≡ 0)
+    -- 9: one more
+    × (length (firsts t) ≡ maxExtents → mem x t ≡ false → overRead t x ≡ 9)
+    -- a known extent after the last
+    × (length (firsts t) ≡ maxExtents → mem x t ≡ true → overRead t x ≡ 0)
+extents-at-the-edge t x h l = (
+  (λ e m. simp (le-ltb maxExtent x h, lt-leb maxReads (length t) l, m, lt-leb maxExtents (length (firsts t)) (omega arith))),
+  (λ e m. simp (le-ltb maxExtent x h, lt-leb maxReads (length t) l, m, e)),
+  λ e m. simp (le-ltb maxExtent x h, lt-leb maxReads (length t) l, m),
+)
 
--- the read 1,048,576 of a known extent, and 8 for the next, before 9
-pub reads-at-the-edge : (t : List ℕ) (x : ℕ) → x ≤ 4_294_967_295
-    → (length t ≡ 1_048_575 → mem x t ≡ true → overRead t x ≡ 0) × (length t ≡ 1_048_576 → overRead t x ≡ 8)
-reads-at-the-edge t x h = ((λ e m. simp (le-ltb 4_294_967_295 x h, e, m)), λ e. simp (le-ltb 4_294_967_295 x h, e))
+-- the last read that there may be, of a known extent, and 8 for the next, before 9
+pub reads-at-the-edge : (t : List ℕ) (x : ℕ) → x ≤ maxExtent
+    → (suc (length t) ≡ maxReads → mem x t ≡ true → overRead t x ≡ 0) × (length t ≡ maxReads → overRead t x ≡ 8)
+reads-at-the-edge t x h = (
+  (λ e m. simp (le-ltb maxExtent x h, lt-leb maxReads (length t) (omega arith), m)),
+  λ e. simp (le-ltb maxExtent x h, e),
+)

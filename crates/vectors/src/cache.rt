@@ -45,7 +45,7 @@ pub fn read(
     hit
 }
 
-// The places that a cache of this size can fill with at most 256 different extents.
+// The places that a cache of this size can fill with as many different extents as the limit.
 pub fn places(size: u32) -> usize {
     if size < MAX_EXTENTS as u32 {
         return size as usize;

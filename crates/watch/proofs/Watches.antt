@@ -10,7 +10,7 @@ use borrow.Author.Tests.{ne-eqb, le-leb}
 use Rattle.reuse.specs.Limits.{maxReads, maxExtents}
 use Rattle.reuse.specs.Lists.{mem, firsts, count}
 use Rattle.reuse.specs.Lru.{Reuse, cold, at, reuses, isCold, within, missesAt}
-use Rattle.reuse.specs.Summary.{summaryOf, readsOf, hitsOf, missesOf}
+use Rattle.reuse.specs.Summary.{summaryOf, missesOf}
 use Rattle.reuse.proofs.Lists.{by-test, clash, mem-head, mem-tail}
 use Rattle.reuse.proofs.Stack.{length-reuses}
 use Rattle.reuse.proofs.Counts.{finite, count-append}
@@ -20,7 +20,7 @@ use Rattle.reuse.proofs.Formed.{summary-formed}
 use Rattle.reuse.proofs.Misses.{within-misses, summary-misses, summary-hits}
 use Rattle.summary_calls.specs.declared.MissCount.the-variants.{Misses}
 use Rattle.summary_calls.specs.declared.ShareAnswer.the-variants.{Answered}
-use Rattle.summary_calls.specs.Calls.{shareOf}
+use Rattle.summary_calls.specs.Calls.{shareAt}
 use Rattle.session.specs.declared.Session.{Session}
 use Rattle.session.specs.Reads.{stepAt}
 use Rattle.watch.specs.declared.Watch.{Watch}
@@ -115,6 +115,6 @@ module _ (c : ℕ) (t : List ℕ) (short : length t ≤ maxReads) (few : length 
       rw (watch-trace, watch-sound _ watch-fits) (ap Misses e)
 
   -- its share is the summary's
-  pub watch-share : shareCall (watchAfter (newOf c) (reuses [] t)) ≡ Answered (shareOf (hitsOf (summaryOf t) c) (readsOf (summaryOf t)))
+  pub watch-share : shareCall (watchAfter (newOf c) (reuses [] t)) ≡ Answered (shareAt (summaryOf t) c)
   unfolding shareCall
   watch-share = rw (watch-trace, watch-sound _ watch-fits, summary-hits c t (summary-formed t short few), reads-summary t)

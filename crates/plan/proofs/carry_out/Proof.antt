@@ -7,7 +7,9 @@ use lib.Seq.{length-take-le}
 use Rattle.reuse.specs.Traces.{Within}
 use Rattle.reuse.specs.Lists.{firsts}
 use Rattle.reuse.proofs.Traces.{extents-exact, extents-within, extents-over}
+use Rattle.texts.specs.Limits.{maxJoins}
 use Rattle.texts.proofs.PlanSound.{sound}
+use Rattle.plan_calls.specs.Calls.{levelWords}
 use Rattle.plan_calls.specs.Standing.{Ready}
 use Rattle.plan_calls.proofs.Carrying.{many-reads, many-extents, work-short, out-short, ready, roomy, cleared-front, run-done}
 use borrow.Author.Needs.{needs}
@@ -23,11 +25,11 @@ counted : (c : tie.Else2) → c .before .extents-of .result ≡ length (firsts (
 counted c = extents-exact _ _ (c .before .extents-of .ensures) (within c .extents)
 
 -- the plan is no deeper than the limit
-shallow : (c : tie.Else2) → c .before .before .before .before .before .before .before .args .depth ≤ 8
+shallow : (c : tie.Else2) → c .before .before .before .before .before .before .before .args .depth ≤ maxJoins
 shallow c = let a = c .before .before .before .before .before .before .before in let s = sound _ _ (a .pre .read) in omega (arith, s .1 .deep, a .pre .deepens)
 
 -- the work words suffice for its levels
-levels : (c : tie.Else4) → 1540 * c .before .before .before .before .before .before .before .before .before .args .depth ≤ length (c .before .before .before .before .before .before .before .before .before .args .work .now)
+levels : (c : tie.Else4) → levelWords * c .before .before .before .before .before .before .before .before .before .args .depth ≤ length (c .before .before .before .before .before .before .before .before .before .args .work .now)
 levels c = omega arith
 
 -- the output suffices for the log's summary
@@ -41,7 +43,7 @@ there c =
     ready (a .args .text .now) (a .args .log .now) (a .args .work .now) (a .args .out .now) (a .pre .plan) (a .pre .read) (a .pre .covers) (within (c .before .before)) (a .args .depth) (a .pre .deepens) (levels c) (room c)
 
 -- the plan's levels stand in the words that come back
-levels-there : (c : tie.After-slice-known4) → 1540 * c .before .before .before .before .before .before .before .before .before .before .before .before .before .before .before .before .args .depth ≤ length (c .before .before .before .before .evaluate .last .1 .1 .1 .1 .1 .1 .0)
+levels-there : (c : tie.After-slice-known4) → levelWords * c .before .before .before .before .before .before .before .before .before .before .before .before .before .before .before .before .args .depth ≤ length (c .before .before .before .before .evaluate .last .1 .1 .1 .1 .1 .1 .0)
 levels-there c = omega (arith, c .before .before .before .before .evaluate .kept .1 .1 .1 .1 .1 .1 .0)
 
 cast-if1 : tie.Need-cast-if1

@@ -2,6 +2,7 @@
 use mathlib.Core.Path.{subst}
 use native.Mathlib.Omega.{arith}
 use lib.ListN.{length}
+use Rattle.texts.specs.Limits.{maxJoins}
 use Rattle.plan_reader.specs.declared.forms.Found.the-variants.{Read}
 use Rattle.plan_reader.specs.Answers.{FormWithin, FormIs}
 use Rattle.plan_reader.proofs.Whole.{too-long, refused, followed, whole}
@@ -13,12 +14,12 @@ use Rattle.plan_reader.proofs.read.Tie as tie
 formed : (c : tie.After-f2) →
     let a = c .before .before .before .before .before .args in
     let g = c .f2 .given .0 in
-    FormWithin 0 (length (a .text .now)) 0 0 8 0 (Read (g .0) (g .1 .0) (g .1 .1 .0) (g .1 .1 .1 .0))
+    FormWithin 0 (length (a .text .now)) 0 0 maxJoins 0 (Read (g .0) (g .1 .0) (g .1 .1 .0) (g .1 .1 .1 .0))
     × FormIs (a .text .now) 0 0 0 0 (Read (g .0) (g .1 .0) (g .1 .1 .0) (g .1 .1 .1 .0))
 formed c =
     let a = c .before .before .before .before .before .args in
     let e = c .before .before .form .ensures in
-    (subst (FormWithin 0 (length (a .text .now)) 0 0 8 0) (c .f2 .given .1) (e .0), subst (FormIs (a .text .now) 0 0 0 0) (c .f2 .given .1) (e .1))
+    (subst (FormWithin 0 (length (a .text .now)) 0 0 maxJoins 0) (c .f2 .given .1) (e .0), subst (FormIs (a .text .now) 0 0 0 0) (c .f2 .given .1) (e .1))
 
 returns : tie.Need-returns
 returns c = too-long (c .before .before .args .text .now) (c .if1 .taken)

@@ -3,6 +3,7 @@ use mathlib.Core.Path.{ap, _∙_}
 use Prim.Native.Nat.{_≤_}
 use native.Mathlib.Omega.{arith}
 use lib.ListN.{length, drop-of-length-le}
+use Rattle.reuse.specs.Limits.{maxExtents}
 use Rattle.reuse.specs.Lists.{mem}
 use Rattle.reuse_rows.proofs.Slices.{part-rest}
 use borrow.Author.Needs.{needs}
@@ -13,8 +14,8 @@ returns : tie.Need-returns
 unfolding mem
 returns c =
     let s = c .before .before .args .words .now in
-    let l : length s ≤ 256 = omega arith in
-    rw (drop-of-length-le s {i = 256} l)
+    let l : length s ≤ maxExtents = omega arith in
+    rw (drop-of-length-le s {i = maxExtents} l)
 
 sub-contains : tie.Need-sub-contains
 sub-contains c = search needs
@@ -31,7 +32,7 @@ contains-requires c κs = search needs
 returns-2 : tie.Need-returns-2
 returns-2 c =
     let a = c .before .before .before .before .args in
-    c .contains .ensures ∙ ap (mem (a .x)) (part-rest (a .words .now) 256)
+    c .contains .ensures ∙ ap (mem (a .x)) (part-rest (a .words .now) maxExtents)
 
 pub beyond-spec : {M : Type 1} → statement M
 beyond-spec =

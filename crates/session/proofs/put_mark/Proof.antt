@@ -2,18 +2,19 @@
 use mathlib.Core.Path.{refl}
 use Prim.Native.Nat.{_-_}
 use native.Mathlib.Omega.{arith}
-use lib.ListN.{take, set}
-use Rattle.session_sums.specs.Sums.{sumsOf}
+use lib.ListN.{set}
+use Rattle.reuse.specs.Limits.{slotCount, sumCount, levels}
+use Rattle.session_sums.specs.Sums.{sumsOf, marksIn}
 use Rattle.session_sums.proofs.Tree.{leaves}
 use Rattle.session_sums.proofs.Changes.{Put, put-start, put-turn, put-end, put-range, put-root}
 use Rattle.session.proofs.put_mark.Statement.{statement}
 use Rattle.session.proofs.put_mark.Tie as tie
 
 abbrev Inv-loop : tie.InvT-loop
-Inv-loop sums₀ s v old p₀ sums p = Put 512 (sumsOf 9 (set (take 512 sums₀) s v)) v old sums p
+Inv-loop sums₀ s v old p₀ sums p = Put slotCount (sumsOf levels (set (marksIn sums₀) s v)) v old sums p
 
 abbrev μ-loop : tie.MeasureT-loop
-μ-loop sums₀ s v old p₀ sums p = 1022 - p
+μ-loop sums₀ s v old p₀ sums p = sumCount - 1 - p
 
 mul-old : tie.Need-mul-old Inv-loop μ-loop
 mul-old c = omega arith
@@ -23,7 +24,7 @@ element-copy-out-old c = omega arith
 
 loop-holds : tie.Need-loop-holds Inv-loop μ-loop
 unfolding leaves
-loop-holds c = put-start 9 512 _ _ _ (c .before .pre .2) refl (c .before .pre .0)
+loop-holds c = put-start levels slotCount _ _ _ (c .before .pre .2) refl (c .before .pre .0)
 
 mul-sums : tie.Need-mul-sums Inv-loop μ-loop
 mul-sums c = omega arith

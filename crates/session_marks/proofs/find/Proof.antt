@@ -4,6 +4,7 @@ use Prim.Native.Nat.{_≤_}
 use native.Mathlib.Omega.{arith}
 use lib.ListN.{length}
 use borrow.Author.Tests.{not-true, not-false}
+use Rattle.reuse.specs.Limits.{slotCount, sumCount}
 use Rattle.session_marks.specs.Marks.{lastBelow, foundSlot}
 use Rattle.session_marks.proofs.Search.{pair-wide, last-hit, last-other, last-bare, last-none, found-pair, found-other, found-past}
 use borrow.Author.Needs.{needs}
@@ -11,7 +12,7 @@ use Rattle.session_marks.proofs.find.Statement.{statement}
 use Rattle.session_marks.proofs.find.Tie as tie
 
 abbrev Inv-loop : tie.InvT-loop
-Inv-loop slots sums next x i₀ i = (length slots ≡ 512) × (length sums ≡ 1023) × (i ≤ 512) × (lastBelow slots sums x i ≡ foundSlot slots sums next x)
+Inv-loop slots sums next x i₀ i = (length slots ≡ slotCount) × (length sums ≡ sumCount) × (i ≤ slotCount) × (lastBelow slots sums x i ≡ foundSlot slots sums next x)
 
 abbrev μ-loop : tie.MeasureT-loop
 μ-loop slots sums next x i₀ i = i

@@ -4,6 +4,7 @@ use mathlib.Core.Logic.{⊎-elim}
 use Prim.Native.Nat.{_-_}
 use native.Mathlib.Omega.{arith}
 use borrow.Author.Tests.{not-true, not-false}
+use Rattle.reuse.specs.Limits.{slotCount}
 use Rattle.session_marks.proofs.Search.{pair-wide}
 use Rattle.session_marks.proofs.Passes.{Moved, moved-start, moved-some, moved-none, moved-end, gathered-pair, gathered-other}
 use borrow.Author.Needs.{needs}
@@ -11,10 +12,10 @@ use Rattle.session_marks.proofs.gather.Statement.{statement}
 use Rattle.session_marks.proofs.gather.Tie as tie
 
 abbrev Inv-loop : tie.InvT-loop
-Inv-loop slots sums out₀ n₀ i₀ out n i = Moved 512 sums slots out n i
+Inv-loop slots sums out₀ n₀ i₀ out n i = Moved slotCount sums slots out n i
 
 abbrev μ-loop : tie.MeasureT-loop
-μ-loop slots sums out₀ n₀ i₀ out n i = 512 - i
+μ-loop slots sums out₀ n₀ i₀ out n i = slotCount - i
 
 paired-requires : tie.Need-paired-requires Inv-loop μ-loop
 paired-requires c κs = search needs
@@ -23,7 +24,7 @@ returns : tie.Need-returns Inv-loop μ-loop
 returns c = sym (gathered-other _ _ (sym (c .before .paired .ensures) ∙ not-true _ (c .if1 .taken)))
 
 loop-holds : tie.Need-loop-holds Inv-loop μ-loop
-loop-holds c = let w = pair-wide _ _ (sym (c .before .paired .ensures) ∙ not-false _ (c .if1 .left)) in moved-start 512 _ _ (omega arith) (w .0)
+loop-holds c = let w = pair-wide _ _ (sym (c .before .paired .ensures) ∙ not-false _ (c .if1 .left)) in moved-start slotCount _ _ (omega arith) (w .0)
 
 mul-if2 : tie.Need-mul-if2 Inv-loop μ-loop
 mul-if2 c = omega arith
@@ -58,7 +59,7 @@ loop-again c =
     ⊎-elim (λ w. rw (w .2, w .3) (moved-some _ _ _ _ _ _ b (omega arith) (w .0 .taken))) (λ w. rw (w .1, w .2) (moved-none _ _ _ _ _ _ b (omega arith) (w .0 .left))) (c .if2 .came)
 
 returns-2 : tie.Need-returns-2 Inv-loop μ-loop
-returns-2 c = moved-end 512 _ _ _ _ _ (c .before .loop .inv) (omega arith) ∙ sym (gathered-pair _ _ (sym (c .before .before .before .paired .ensures) ∙ not-false _ (c .before .before .if1 .left)))
+returns-2 c = moved-end slotCount _ _ _ _ _ (c .before .loop .inv) (omega arith) ∙ sym (gathered-pair _ _ (sym (c .before .before .before .paired .ensures) ∙ not-false _ (c .before .before .if1 .left)))
 
 pub gather-spec : {M : Type 1} → statement M
 gather-spec =

@@ -3,8 +3,10 @@ use mathlib.Core.Path.{_≡_, sym, ap, _∙_}
 use mathlib.Core.Bool.{true}
 use borrow.Author.Tests.{not-true, not-false, le-leb, lt-leb}
 use lib.Dec.{leb}
-use lib.ListN.{take, drop}
+use lib.ListN.{drop}
+use Rattle.reuse.specs.Limits.{slotCount}
 use Rattle.reuse_rows.specs.Rows.{blank}
+use Rattle.session_sums.specs.Sums.{marksIn}
 use Rattle.session_marks.specs.Marks.{tidy}
 use Rattle.session_soundness.specs.Soundness.{marksHold}
 use Rattle.session_soundness.proofs.Passes.{part-run}
@@ -17,15 +19,15 @@ abbrev start : tie.After-all-zero → tie.Start
 start c = c .before .before .before .before .before .before .before
 
 -- the marks from next on, as they were tested
-free : (c : tie.After-all-zero) → c .all-zero .result ≡ blank (drop (start c .args .next) (take 512 (start c .args .sums .now)))
-free c = c .all-zero .ensures ∙ ap blank (part-run (start c .args .next) 512 (start c .args .sums .now) (c .before .before .before .before .if1 .left))
+free : (c : tie.After-all-zero) → c .all-zero .result ≡ blank (drop (start c .args .next) (marksIn (start c .args .sums .now)))
+free c = c .all-zero .ensures ∙ ap blank (part-run (start c .args .next) slotCount (start c .args .sums .now) (c .before .before .before .before .if1 .left))
 
--- next is at most 512
-low : (c : tie.After-all-zero) → leb (start c .args .next) 512 ≡ true
+-- next is at most the number of slots
+low : (c : tie.After-all-zero) → leb (start c .args .next) slotCount ≡ true
 low c = le-leb _ _ (c .before .before .before .before .if1 .left)
 
 -- the slots are tidy
-kept : (c : tie.After-all-zero) → tidy (take 512 (start c .args .sums .now)) (start c .args .slots .now) ≡ true
+kept : (c : tie.After-all-zero) → tidy (marksIn (start c .args .sums .now)) (start c .args .slots .now) ≡ true
 kept c = sym (c .before .before .before .neat .ensures) ∙ not-false _ (c .before .before .if2 .left)
 
 returns : tie.Need-returns

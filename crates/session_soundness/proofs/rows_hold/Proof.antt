@@ -6,6 +6,7 @@ use lib.Seq.{length-take-le, take-all}
 use borrow.Author.Tests.{not-true, not-false}
 use Prim.Native.Nat.{ℕ, _+_, _≤_}
 use mathlib.Core.List.{List}
+use Rattle.reuse.specs.Limits.{maxExtents, slotCount}
 use Rattle.reuse.specs.Lists.{allIn, sum}
 use Rattle.reuse_rows.specs.Rows.{blank}
 use Rattle.session_soundness.specs.Soundness.{Wide}
@@ -45,8 +46,8 @@ from-total c = from-hist (c .before .before .before)
 abbrev from-apart : tie.After-all-distinct → tie.Start
 from-apart c = from-total (c .before .before .before)
 
--- v is at most 256
-few : (c : tie.Else3) → root (from-root (c .before) .args .sums .now) ≤ 256
+-- v is within the limit
+few : (c : tie.Else3) → root (from-root (c .before) .args .sums .now) ≤ maxExtents
 few c = c .if3 .left
 
 -- the words of F from v on, as they were tested
@@ -62,7 +63,7 @@ total : (c : tie.After-total) → c .total .result ≡ sum (take (root (from-tot
 total c =
     let v = few (c .before .before .before .before .before .before .before .before) in
     let h = from-total c .args .hist .now in
-    c .total .ensures .0 ∙ ap sum (take-all 256 _ (omega (arith, v, wide (from-total c) .hist-wide, length-take-le (root (from-total c .args .sums .now)) h (omega (arith, v, wide (from-total c) .hist-wide)))))
+    c .total .ensures .0 ∙ ap sum (take-all maxExtents _ (omega (arith, v, wide (from-total c) .hist-wide, length-take-le (root (from-total c .args .sums .now)) h (omega (arith, v, wide (from-total c) .hist-wide)))))
 
 -- all tests but the last are passed
 passed : (c : tie.Else7)
@@ -185,7 +186,7 @@ array-share-prefix-marked c = search needs
 
 slice-aggregate-all-in-2 : tie.Need-slice-aggregate-all-in-2
 slice-aggregate-all-in-2 c =
-    let n : length (c .before .before .gather .result) ≡ 512 = search needs in
+    let n : length (c .before .before .gather .result) ≡ slotCount = search needs in
     sym (length-take-le _ _ (omega (arith, passed (c .before .before .before) .few)))
 
 all-in-requires : tie.Need-all-in-requires

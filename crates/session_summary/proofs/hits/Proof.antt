@@ -5,6 +5,7 @@ use Prim.Native.Nat.{_≤_}
 use native.Mathlib.Omega.{arith}
 use lib.ListN.{take}
 use lib.Seq.{length-take-le, take-all}
+use Rattle.reuse.specs.Limits.{maxExtents}
 use Rattle.reuse.specs.Lists.{sum}
 use Rattle.reuse.specs.Summary.{hitsOf}
 use Rattle.session_soundness.specs.Soundness.{Wide}
@@ -35,8 +36,8 @@ counted c =
     (λ w. rw (w .1) (omega (arith, kept-root s k, w .0 .left), hits-small s k _ (omega (arith, kept-root s k, w .0 .left))))
     (c .if1 .came)
 
--- they are at most 256
-small : (c : tie.Joined1) → c .if1 .n ≤ 256
+-- they are within the limit
+small : (c : tie.Joined1) → c .if1 .n ≤ maxExtents
 small c = omega (arith, counted c .0, kept-few (c .before .before .args .t1) (kept (c .before .before)))
 
 -- their sum is the hits
@@ -45,7 +46,7 @@ hit c =
     let j = c .before .before .before in
     let h = j .before .before .args .t1 .hist in
     c .total .ensures .0
-    ∙ ap sum (take-all 256 (take (j .if1 .n) h) (omega (arith, small j, length-take-le (j .if1 .n) h (omega (arith, small j, wide (j .before .before) .hist-wide)))))
+    ∙ ap sum (take-all maxExtents (take (j .if1 .n) h) (omega (arith, small j, length-take-le (j .if1 .n) h (omega (arith, small j, wide (j .before .before) .hist-wide)))))
     ∙ counted j .1
 
 element-copy-out-v : tie.Need-element-copy-out-v

@@ -6,7 +6,7 @@ use native.Mathlib.Omega.{arith}
 use lib.ListN.{length}
 use lib.Seq.{length-take-le}
 use borrow.Author.Tests.{not-true, not-false}
-use Rattle.reuse.specs.Limits.{maxExtents}
+use Rattle.reuse.specs.Limits.{maxExtents, slotCount}
 use Rattle.summary_calls.specs.Calls.{Wrote}
 use Rattle.session_soundness.specs.Soundness.{Wide}
 use Rattle.session.specs.declared.Session.{Session}
@@ -37,7 +37,7 @@ wide c = search needs
 ok : (c : tie.Else1) → sound (given c) ≡ true
 ok c = sym (c .before .sound .ensures) ∙ not-false _ (c .if1 .left)
 
--- v is at most 256
+-- v is within the limit
 few : (c : tie.Else1) → root (given c) ≤ maxExtents
 few c = root-few (given c) (wide (start c)) (ok c)
 
@@ -64,7 +64,7 @@ array-share-prefix-marked c = omega (arith, few (tested (c)))
 
 slice-aggregate-turned : tie.Need-slice-aggregate-turned
 slice-aggregate-turned c =
-    let n : length (c .before .gather .result) ≡ 512 = search needs in
+    let n : length (c .before .gather .result) ≡ slotCount = search needs in
     sym (length-take-le _ _ (omega (arith, few (tested (c .before)))))
 
 turned-requires : tie.Need-turned-requires
@@ -81,7 +81,7 @@ array-share-prefix-recent c = omega (arith, few (tested (c .before .before .befo
 
 slice-aggregate-write-2 : tie.Need-slice-aggregate-write-2
 slice-aggregate-write-2 c =
-    let n : length (c .before .before .before .before .turned .result) ≡ 256 = search needs in
+    let n : length (c .before .before .before .before .turned .result) ≡ maxExtents = search needs in
     sym (length-take-le _ _ (omega (arith, few (tested (c .before .before .before .before .before .before)))))
 
 array-share-prefix-counts : tie.Need-array-share-prefix-counts

@@ -5,6 +5,7 @@ use mathlib.Core.List.{map}
 use Prim.Native.Nat.{_+_, _-_}
 use native.Mathlib.Omega.{arith}
 use lib.ListN.{length, getD}
+use Rattle.reuse.specs.Limits.{slotCount, sumCount, levels}
 use Rattle.reuse.specs.Lists.{sum}
 use Rattle.session_sums.specs.Sums.{neighbours}
 use Rattle.session_sums.proofs.Tree.{full}
@@ -13,10 +14,10 @@ use Rattle.session_sums.proofs.above.Statement.{statement}
 use Rattle.session_sums.proofs.above.Tie as tie
 
 abbrev Inv-loop : tie.InvT-loop
-Inv-loop sums s total₀ count₀ p₀ total count p = Up 512 sums (sum (map (λ k. getD sums k 0) (neighbours 512 9 s))) (length (neighbours 512 9 s)) p total count
+Inv-loop sums s total₀ count₀ p₀ total count p = Up slotCount sums (sum (map (λ k. getD sums k 0) (neighbours slotCount levels s))) (length (neighbours slotCount levels s)) p total count
 
 abbrev μ-loop : tie.MeasureT-loop
-μ-loop sums s total₀ count₀ p₀ total count p = 1022 - p
+μ-loop sums s total₀ count₀ p₀ total count p = sumCount - 1 - p
 
 returns : tie.Need-returns Inv-loop μ-loop
 returns c = sym (walked-other _ _ (c .if1 .taken))
@@ -25,7 +26,7 @@ returns-2 : tie.Need-returns-2 Inv-loop μ-loop
 returns-2 c = sym (walked-past _ _ (c .if2 .taken))
 
 loop-holds : tie.Need-loop-holds Inv-loop μ-loop
-loop-holds c = up-start 9 512 _ _ full (omega arith)
+loop-holds c = up-start levels slotCount _ _ full (omega arith)
 
 add-total : tie.Need-add-total Inv-loop μ-loop
 add-total c = omega arith
@@ -42,12 +43,12 @@ cast-total c = omega (arith, c .shared-slice-known .given (c .before .before .be
 add-total-2 : tie.Need-add-total-2 Inv-loop μ-loop
 add-total-2 c =
     let l = c .before .before .before .loop in
-    omega (arith, c .shared-slice-known .given (l .p + 1), l .inv .small, l .inv .noughts, neighbours-few 512 9 (c .before .before .before .before .before .before .args .s))
+    omega (arith, c .shared-slice-known .given (l .p + 1), l .inv .small, l .inv .noughts, neighbours-few slotCount levels (c .before .before .before .before .before .before .args .s))
 
 add-count : tie.Need-add-count Inv-loop μ-loop
 add-count c =
     let l = c .before .before .before .loop in
-    omega (arith, l .inv .noughts, neighbours-few 512 9 (c .before .before .before .before .before .before .args .s))
+    omega (arith, l .inv .noughts, neighbours-few slotCount levels (c .before .before .before .before .before .before .args .s))
 
 add-p : tie.Need-add-p Inv-loop μ-loop
 add-p c = omega arith

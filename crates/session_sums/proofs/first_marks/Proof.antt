@@ -4,13 +4,14 @@ use mathlib.Core.Logic.{⊎-elim}
 use Prim.Native.Nat.{ℕ, _-_, _≤_, min}
 use native.Mathlib.Omega.{arith}
 use lib.ListN.{replicate}
+use Rattle.reuse.specs.Limits.{slotCount, sumCount, levels}
 use Rattle.session_sums.specs.Sums.{sumsOf, filled}
 use Rattle.session_sums.proofs.Filled.{most-marks, ones-turn, ones-size, ones-take, ones-sum}
 use Rattle.session_sums.proofs.first_marks.Statement.{statement}
 use Rattle.session_sums.proofs.first_marks.Tie as tie
 
 abbrev Inv-loop : tie.InvT-loop
-Inv-loop v n out₀ i₀ out i = (n ≡ min v 512) × (i ≤ n) × (out ≡ filled 1023 (replicate i 1))
+Inv-loop v n out₀ i₀ out i = (n ≡ min v slotCount) × (i ≤ n) × (out ≡ filled sumCount (replicate i 1))
 
 abbrev μ-loop : tie.MeasureT-loop
 μ-loop v n out₀ i₀ out i = n - i
@@ -32,17 +33,17 @@ loop-less : tie.Need-loop-less Inv-loop μ-loop
 loop-less c = omega arith
 
 loop-again : tie.Need-loop-again Inv-loop μ-loop
-loop-again c = (c .before .loop .inv .0, omega arith, ones-turn 1023 _ _ (c .before .loop .inv .2) (omega arith))
+loop-again c = (c .before .loop .inv .0, omega arith, ones-turn sumCount _ _ (c .before .loop .inv .2) (omega arith))
 
 rebuild-requires : tie.Need-rebuild-requires Inv-loop μ-loop
 rebuild-requires c κs =
     let l = c .before .before .loop in
-    (ones-size 1023 (l .out) (l .i) (l .inv .2) (omega arith), omega (arith, ones-sum 1023 (l .out) (l .i) (l .inv .2) 512 (omega arith) (omega arith)))
+    (ones-size sumCount (l .out) (l .i) (l .inv .2) (omega arith), omega (arith, ones-sum sumCount (l .out) (l .i) (l .inv .2) slotCount (omega arith) (omega arith)))
 
 returns : tie.Need-returns Inv-loop μ-loop
 returns c =
     let l = c .before .before .before .loop in
-    c .rebuild .ensures ∙ ap (sumsOf 9) (ones-take 1023 (l .out) (l .i) (l .inv .2) 512 (omega arith) (omega arith) ∙ most-marks (l .i) _ (omega arith))
+    c .rebuild .ensures ∙ ap (sumsOf levels) (ones-take sumCount (l .out) (l .i) (l .inv .2) slotCount (omega arith) (omega arith) ∙ most-marks (l .i) _ (omega arith))
 
 pub first-marks-spec : {M : Type 1} → statement M
 first-marks-spec =

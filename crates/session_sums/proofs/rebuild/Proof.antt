@@ -2,21 +2,22 @@
 use mathlib.Core.Path.{refl}
 use Prim.Native.Nat.{_+_, _-_, _*_}
 use native.Mathlib.Omega.{arith}
-use lib.ListN.{take}
+use Rattle.reuse.specs.Limits.{slotCount, levels}
+use Rattle.session_sums.specs.Sums.{marksIn}
 use Rattle.session_sums.proofs.Tree.{leaves}
 use Rattle.session_sums.proofs.Inner.{Built, built-start, built-more, built-end, built-le}
 use Rattle.session_sums.proofs.rebuild.Statement.{statement}
 use Rattle.session_sums.proofs.rebuild.Tie as tie
 
 abbrev Inv-loop : tie.InvT-loop
-Inv-loop sums₀ i₀ sums i = Built 9 512 (take 512 sums₀) sums i
+Inv-loop sums₀ i₀ sums i = Built levels slotCount (marksIn sums₀) sums i
 
 abbrev μ-loop : tie.MeasureT-loop
-μ-loop sums₀ i₀ sums i = 511 - i
+μ-loop sums₀ i₀ sums i = slotCount - 1 - i
 
 loop-holds : tie.Need-loop-holds Inv-loop μ-loop
 unfolding leaves
-loop-holds c = built-start 9 512 _ refl (omega arith) (omega arith)
+loop-holds c = built-start levels slotCount _ refl (omega arith) (omega arith)
 
 mul-sums : tie.Need-mul-sums Inv-loop μ-loop
 mul-sums c = omega arith
@@ -44,7 +45,7 @@ unfolding leaves
 add-sums-2 c =
     let b = c .before .before .before .loop .inv in
     let i = c .before .before .before .loop .i in
-    omega (arith, built-le 9 512 _ _ _ refl b (2 * i) (omega arith), built-le 9 512 _ _ _ refl b (2 * i + 1) (omega arith), c .before .before .before .before .pre .1)
+    omega (arith, built-le levels slotCount _ _ _ refl b (2 * i) (omega arith), built-le levels slotCount _ _ _ refl b (2 * i + 1) (omega arith), c .before .before .before .before .pre .1)
 
 add-sums-3 : tie.Need-add-sums-3 Inv-loop μ-loop
 add-sums-3 c = omega arith
@@ -63,11 +64,11 @@ loop-less c = omega arith
 
 loop-again : tie.Need-loop-again Inv-loop μ-loop
 unfolding leaves
-loop-again c = built-more 9 512 _ _ _ refl (c .before .before .before .loop .inv) (omega arith)
+loop-again c = built-more levels slotCount _ _ _ refl (c .before .before .before .loop .inv) (omega arith)
 
 returns : tie.Need-returns Inv-loop μ-loop
 unfolding leaves
-returns c = built-end 9 512 _ _ _ refl (c .before .loop .inv) (omega arith)
+returns c = built-end levels slotCount _ _ _ refl (c .before .loop .inv) (omega arith)
 
 pub rebuild-spec : {M : Type 1} → statement M
 rebuild-spec =

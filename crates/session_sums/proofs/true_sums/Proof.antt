@@ -4,6 +4,7 @@ use mathlib.Core.Logic.{⊎-elim}
 use Prim.Native.Nat.{_-_, _*_, _+_}
 use native.Mathlib.Omega.{arith}
 use borrow.Author.Tests.{eq-eqb, ne-eqb}
+use Rattle.reuse.specs.Limits.{slotCount, sumCount, levels}
 use Rattle.session_sums.specs.Sums.{trueSums}
 use Rattle.session_sums.proofs.Tree.{full}
 use Rattle.session_sums.proofs.Inner.{Nodes, nodes-start, nodes-hold, nodes-miss, nodes-end}
@@ -12,17 +13,17 @@ use Rattle.session_sums.proofs.true_sums.Statement.{statement}
 use Rattle.session_sums.proofs.true_sums.Tie as tie
 
 abbrev Inv-loop : tie.InvT-loop
-Inv-loop sums good₀ i₀ good i = Nodes 9 512 sums good i
+Inv-loop sums good₀ i₀ good i = Nodes levels slotCount sums good i
 
 abbrev μ-loop : tie.MeasureT-loop
-μ-loop sums good₀ i₀ good i = 511 - i
+μ-loop sums good₀ i₀ good i = slotCount - 1 - i
 
 returns : tie.Need-returns Inv-loop μ-loop
 unfolding trueSums
-returns c = sym (simp (ne-eqb _ 1023 (c .if1 .taken)))
+returns c = sym (simp (ne-eqb _ sumCount (c .if1 .taken)))
 
 loop-holds : tie.Need-loop-holds Inv-loop μ-loop
-loop-holds c = nodes-start 9 512 _ full (omega arith)
+loop-holds c = nodes-start levels slotCount _ full (omega arith)
 
 mul-a : tie.Need-mul-a Inv-loop μ-loop
 mul-a c = omega arith
@@ -69,18 +70,18 @@ loop-again c =
     let l = k .before .before .before .before .loop in
     let a = k .before .before .shared-slice-known2 .given (2 * l .i) .fits in
     let b = k .before .shared-slice-known3 .given (2 * l .i + 1) .fits in
-    let t = k .shared-slice-known4 .given (512 + l .i) .fits in
+    let t = k .shared-slice-known4 .given (slotCount + l .i) .fits in
     let s = c .before .wrapping-add-u32 .ensures in
     ⊎-elim
-    (λ w. rw (w .1) (nodes-miss 9 512 _ _ _ full (l .inv) (omega arith) (λ n. w .0 .taken (s ∙ omega arith))))
+    (λ w. rw (w .1) (nodes-miss levels slotCount _ _ _ full (l .inv) (omega arith) (λ n. w .0 .taken (s ∙ omega arith))))
     (⊎-elim
-    (λ w. rw (w .2) (nodes-miss 9 512 _ _ _ full (l .inv) (omega arith) (λ n. omega (arith, w .1 .taken))))
-    (λ w. rw (w .2) (nodes-hold 9 512 _ _ _ full (l .inv) (omega arith) (omega (arith, w .0 .left, w .1 .left)))))
+    (λ w. rw (w .2) (nodes-miss levels slotCount _ _ _ full (l .inv) (omega arith) (λ n. omega (arith, w .1 .taken))))
+    (λ w. rw (w .2) (nodes-hold levels slotCount _ _ _ full (l .inv) (omega arith) (omega (arith, w .0 .left, w .1 .left)))))
     (c .if2 .came)
 
 returns-2 : tie.Need-returns-2 Inv-loop μ-loop
 unfolding trueSums
-returns-2 c = nodes-end 9 512 _ _ _ full (c .before .loop .inv) (omega arith) ∙ sym (simp (eq-eqb _ 1023 (c .before .before .if1 .left)))
+returns-2 c = nodes-end levels slotCount _ _ _ full (c .before .loop .inv) (omega arith) ∙ sym (simp (eq-eqb _ sumCount (c .before .before .if1 .left)))
 
 pub true-sums-spec : {M : Type 1} → statement M
 true-sums-spec =

@@ -10,7 +10,7 @@ use Rattle.summary_calls.specs.Calls.{Wrote, traceCall}
 use Rattle.texts.specs.Plans.{reads}
 use Rattle.texts.specs.PlanPlaces.{segAt, joinAt, lineAt}
 use Rattle.plan_lines.proofs.Lines.{seg-line, join-line, no-line}
-use Rattle.plan_calls.specs.Calls.{countOf}
+use Rattle.plan_calls.specs.Calls.{summaryWords, levelWords, countOf}
 use Rattle.plan_calls.specs.Standing.{span, Ready}
 use Rattle.plan_calls.proofs.Levels.{back-length, below-long}
 use Rattle.plan_calls.proofs.Standing.{Opened, NextPart, some-line, seg-there, join-there, next-part, ready-next, below-roomy}
@@ -112,7 +112,7 @@ positive : (t : ℕ) (c : evaluate-lts.After-l2 (evaluate-claims t) (evaluate-at
 positive t c = let r = c .before .before .before .before .before .before .before .pre .1 .0 in omega (arith, opened t c r .deepens, r .deep)
 
 -- the words held at the front of the output
-held-is : (t : ℕ) (c : evaluate-lts.At-loop (evaluate-claims t) (evaluate-at t) evaluate.Post evaluate-Inv-loop evaluate-μ-loop) → (c .loop .done .words ≤ 770) × (c .loop .done .words ≤ length (c .loop .out))
+held-is : (t : ℕ) (c : evaluate-lts.At-loop (evaluate-claims t) (evaluate-at t) evaluate.Post evaluate-Inv-loop evaluate-μ-loop) → (c .loop .done .words ≤ summaryWords) × (c .loop .done .words ≤ length (c .loop .out))
 held-is t c =
     let a = c .before .before .before .before .before .before .before .before .before in
     let l = c .loop in
@@ -121,7 +121,7 @@ held-is t c =
     (h .0, h .1)
 
 -- this level's words
-level-there : (t : ℕ) (c : evaluate-lts.At-loop (evaluate-claims t) (evaluate-at t) evaluate.Post evaluate-Inv-loop evaluate-μ-loop) → 1540 ≤ length (c .loop .work)
+level-there : (t : ℕ) (c : evaluate-lts.At-loop (evaluate-claims t) (evaluate-at t) evaluate.Post evaluate-Inv-loop evaluate-μ-loop) → levelWords ≤ length (c .loop .work)
 level-there t c = omega (arith, c .loop .inv .0, c .before .before .before .before .before .before .before .before .before .pre .1 .1 .levels, positive t (c .before .before))
 
 -- the words held fit them
@@ -147,14 +147,14 @@ part-is : (t : ℕ) (c : evaluate-lts.After-join-held-arg2 (evaluate-claims t) (
     let e = c .before .before .before .before .before .before .evaluate in
     (r : Ready (a .s .now) (a .at) (a .under) (a .log .now) (a .from) (a .left))
     → let n = next-is t (c .before .before .before .before .before .before .before .before .before .before .before .before .before) r in
-    Evaluated (a .s .now) (l .done .next) (a .log .now) (l .done .taken) (a .left - 1) (midOf 1540 (length w - 1540) w) (l .out) (n .part) (n .closes) (n .after) (e .result) (e .last .1 .1 .1 .1 .1 .1 .0) (e .last .1 .1 .1 .1 .1 .1 .1 .0)
+    Evaluated (a .s .now) (l .done .next) (a .log .now) (l .done .taken) (a .left - 1) (midOf levelWords (length w - levelWords) w) (l .out) (n .part) (n .closes) (n .after) (e .result) (e .last .1 .1 .1 .1 .1 .1 .0) (e .last .1 .1 .1 .1 .1 .1 .1 .0)
 part-is t c r =
     let a = c .before .before .before .before .before .before .before .before .before .before .before .before .before .before .before .before .before .before .before .before .before .before .before .before .before .args in
     let l = c .before .before .before .before .before .before .before .before .before .before .before .before .before .before .before .before .loop in
     c .before .before .before .before .before .before .evaluate .ensures (ready-next (a .s .now) (l .done .next) (a .under) (a .log .now) (l .done .taken) (a .left) (r .closes) (r .rest) (a .from + reads (r .plan)) (next-is t (c .before .before .before .before .before .before .before .before .before .before .before .before .before) r) (r .covered))
 
 -- the words lent below come back as many
-below-back : (t : ℕ) (c : evaluate-lts.After-join-held-arg2 (evaluate-claims t) (evaluate-at t) evaluate.Post evaluate-Inv-loop evaluate-μ-loop) → length (c .before .before .before .before .before .before .evaluate .last .1 .1 .1 .1 .1 .1 .0) ≡ length (c .before .before .before .before .before .before .before .before .before .before .before .put .last .0) - 1540
+below-back : (t : ℕ) (c : evaluate-lts.After-join-held-arg2 (evaluate-claims t) (evaluate-at t) evaluate.Post evaluate-Inv-loop evaluate-μ-loop) → length (c .before .before .before .before .before .before .evaluate .last .1 .1 .1 .1 .1 .1 .0) ≡ length (c .before .before .before .before .before .before .before .before .before .before .before .put .last .0) - levelWords
 below-back t c =
     let a = c .before .before .before .before .before .before .before .before .before .before .before .before .before .before .before .before .before .before .before .before .before .before .before .before .before in
     c .before .before .before .before .before .before .evaluate .kept .1 .1 .1 .1 .1 .1 .0 ∙ below-long (c .before .before .before .before .before .before .before .before .before .before .before .put .last .0) (a .args .left) (positive t (c .before .before .before .before .before .before .before .before .before .before .before .before .before .before .before .before .before .before)) (omega (arith, c .before .before .before .before .before .before .before .before .before .before .before .put .kept .0, c .before .before .before .before .before .before .before .before .before .before .before .before .before .before .before .before .loop .inv .0, a .pre .1 .1 .levels))
@@ -248,8 +248,8 @@ evaluate-loop-again t c =
     let e = j .before .before .before .before .before .before .evaluate in
     let h = c .before .before .before .before .join-held in
     let w = j .before .before .before .before .before .before .before .before .before .before .before .put in
-    let fits : 1540 ≤ length (w .last .0) = omega (arith, w .kept .0, level-there t m) in (
-      h .kept .0 ∙ back-length 1540 (w .last .0) (e .last .1 .1 .1 .1 .1 .1 .0) fits (below-back t j) ∙ w .kept .0 ∙ l .inv .0,
+    let fits : levelWords ≤ length (w .last .0) = omega (arith, w .kept .0, level-there t m) in (
+      h .kept .0 ∙ back-length levelWords (w .last .0) (e .last .1 .1 .1 .1 .1 .1 .0) fits (below-back t j) ∙ w .kept .0 ∙ l .inv .0,
       h .kept .1 .1 .0 ∙ e .kept .1 .1 .1 .1 .1 .1 .1 .0 ∙ l .inv .1,
       λ r. part-done (a .args .s .now) (a .args .at) (a .args .under) (a .args .log .now) (a .args .from) (a .args .left) (a .args .work .now) (a .args .out .now) (r .plan) (r .closes) (r .rest) (positive t (j .before .before .before .before .before .before .before .before .before .before .before .before .before .before .before .before .before .before)) (a .pre .1 .1 .levels) (a .pre .1 .1 .within) (a .pre .1 .1 .room) (l .done) (l .work) (l .out) (l .inv .2 r) (l .inv .0) (l .inv .1)
           (next-is t (j .before .before .before .before .before .before .before .before .before .before .before .before .before) r) (w .last .0) (w .ensures ∙ placed-fits _ _ _ (held-fits t m)) (w .kept .0) (e .result) (e .last .1 .1 .1 .1 .1 .1 .0) (e .last .1 .1 .1 .1 .1 .1 .1 .0) (below-back t j) (e .kept .1 .1 .1 .1 .1 .1 .1 .0) (part-is t j r)

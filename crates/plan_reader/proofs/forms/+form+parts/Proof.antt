@@ -1,8 +1,9 @@
 -- `plan_reader::forms::form` and `plan_reader::forms::parts` meet their contracts. The bytes left fall from the one to the other.
 use mathlib.Core.Path.{_≡_, subst}
-use Prim.Native.Nat.{ℕ, _+_, _-_, _*_, _≤_, _<_}
+use Prim.Native.Nat.{ℕ, suc, _+_, _-_, _*_, _≤_, _<_}
 use native.Mathlib.Omega.{arith}
 use lib.ListN.{length, drop}
+use Rattle.texts.specs.Limits.{maxJoins}
 use Rattle.texts.specs.PlanPlaces.{segAt, joinAt, lineAt}
 use Rattle.plan_reader.specs.declared.forms.Found.the-variants.{Read}
 use Rattle.plan_lines.proofs.Lines.{seg-line, join-line, no-line}
@@ -73,13 +74,13 @@ formed : (t : ℕ) (c : parts-lts.After-f2 (parts-claims t) (parts-at t) parts.P
     let a = c .before .before .before .before .before .args in
     let g = c .f2 .given .0 in
     let m = c .before .before .before .closable .result in
-    FormWithin (a .at) (length (a .s .now)) m (a .under) 8 0 (Read (g .0) (g .1 .0) (g .1 .1 .0) (g .1 .1 .1 .0))
+    FormWithin (a .at) (length (a .s .now)) m (a .under) maxJoins 0 (Read (g .0) (g .1 .0) (g .1 .1 .0) (g .1 .1 .1 .0))
     × FormIs (a .s .now) (a .at) (a .under) m (a .count) (Read (g .0) (g .1 .0) (g .1 .1 .0) (g .1 .1 .1 .0))
 formed t c =
     let a = c .before .before .before .before .before .args in
     let m = c .before .before .before .closable .result in
     let e = c .before .before .form .ensures in (
-      subst (FormWithin (a .at) (length (a .s .now)) m (a .under) 8 0) (c .f2 .given .1) (e .0),
+      subst (FormWithin (a .at) (length (a .s .now)) m (a .under) maxJoins 0) (c .f2 .given .1) (e .0),
       subst (FormIs (a .s .now) (a .at) (a .under) m (a .count)) (c .f2 .given .1) (e .1),
     )
 
@@ -171,7 +172,7 @@ form-returns-8 t c =
     let v = joined t l in
     let u = v .1 in
     let e = c .parts .ensures in (
-      ways.form-from (a .at) g (length (a .s .now)) (a .most) (a .under) (a .under + 1) 8 9 0 0 (c .parts .result) (omega arith) (omega arith) (omega arith) (e .0),
+      ways.form-from (a .at) g (length (a .s .now)) (a .most) (a .under) (a .under + 1) maxJoins (suc maxJoins) 0 0 (c .parts .result) (omega arith) (omega arith) (omega arith) (e .0),
       ways.join (a .s .now) (a .at) (a .under) (a .most) (a .count) g (v .0) (c .before .before .if4 .left) (c .before .if5 .left) (c .parts .result) (e .1),
     )
 
@@ -245,7 +246,7 @@ parts-returns-3 t c =
     let f = formed t l in
     let h = f .0 in
     let e = c .parts .ensures in (
-      ways.form-from (a .at) (g .1 .1 .1 .0) (length (a .s .now)) (a .most) (a .under) (a .under) 9 9 (a .reads) (a .reads + g .0) (c .parts .result) (omega arith) (omega arith) (omega arith) (e .0),
+      ways.form-from (a .at) (g .1 .1 .1 .0) (length (a .s .now)) (a .most) (a .under) (a .under) (suc maxJoins) (suc maxJoins) (a .reads) (a .reads + g .0) (c .parts .result) (omega arith) (omega arith) (omega arith) (e .0),
       ways.more (a .s .now) (a .at) (a .under) (a .most) (a .count) (a .reads) (a .low) (m .result) (m .ensures .0) (g .0) (g .1 .0) (g .1 .1 .0) (g .1 .1 .1 .0) (f .1) (c .before .before .deeper .result) (c .before .before .deeper .ensures) (omega (arith, c .before .if1 .left)) (c .parts .result) (e .1),
     )
 

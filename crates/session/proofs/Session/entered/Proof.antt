@@ -3,6 +3,7 @@ use mathlib.Core.Path.{refl}
 use Prim.Native.Nat.{_-_}
 use native.Mathlib.Omega.{arith}
 use native.Mathlib.Numerals.{add-one}
+use Rattle.reuse.specs.Limits.{slotCount, levels}
 use Rattle.session.specs.Sessions.{marks, extents}
 use Rattle.session.specs.Reads.{entered}
 use Rattle.session_sums.proofs.Tree.{leaves, trued-root}
@@ -21,11 +22,11 @@ cast-next c = search needs
 
 mul-self : tie.Need-mul-self
 unfolding leaves extents marks
-mul-self c = omega (arith, trued-root 9 512 _ (c .before .pre .trued) refl, c .before .pre .few)
+mul-self c = omega (arith, trued-root levels slotCount _ (c .before .pre .trued) refl, c .before .pre .few)
 
 element-write-self : tie.Need-element-write-self
 unfolding leaves extents marks
-element-write-self c = omega (arith, trued-root 9 512 _ (c .before .pre .trued) refl, c .before .pre .few)
+element-write-self c = omega (arith, trued-root levels slotCount _ (c .before .pre .trued) refl, c .before .pre .few)
 
 put-mark-requires : tie.Need-put-mark-requires
 put-mark-requires c κs = search needs
@@ -44,7 +45,7 @@ add-self-2 c = search needs
 
 returns : tie.Need-returns
 unfolding leaves extents marks entered
-returns c = simp (add-one, trued-root 9 512 _ (c .before .before .before .pre .trued) refl, c .put-mark .ensures)
+returns c = simp (add-one, trued-root levels slotCount _ (c .before .before .before .pre .trued) refl, c .put-mark .ensures)
 
 pub entered-spec : {M : Type 1} → statement M
 entered-spec =

@@ -2,8 +2,8 @@
 use mathlib.Core.Path.{refl, _∙_}
 use Prim.Native.Nat.{_-_}
 use native.Mathlib.Omega.{arith}
-use lib.ListN.{take}
-use Rattle.session_sums.specs.Sums.{filled}
+use Rattle.reuse.specs.Limits.{slotCount, levels}
+use Rattle.session_sums.specs.Sums.{marksIn, filled}
 use Rattle.session.specs.Sessions.{marks, extents}
 use Rattle.session.specs.Reads.{gathered}
 use Rattle.session_sums.proofs.Tree.{full, trued-root, trued-wide}
@@ -34,8 +34,8 @@ returns c =
     let z = g .before .before .before .before .before .before .before in
     let p = z .pre in
     let s = z .args .t1 in
-    let e = trued-root 9 512 (s .sums) (p .trued) full in
-    let n = row-count (tidy-row (take 512 (s .sums)) (s .slots) (omega (arith, p .slots-wide, p .trued .full)) (p .neat)) in
+    let e = trued-root levels slotCount (s .sums) (p .trued) full in
+    let n = row-count (tidy-row (marksIn (s .sums)) (s .slots) (omega (arith, p .slots-wide, p .trued .full)) (p .neat)) in
     let slots = g .gather .ensures ∙ gathered-pair (s .slots) (s .sums) (pair-of (s .slots) (s .sums) (p .slots-wide) (trued-wide (s .sums) (p .trued))) in
     rw (slots, n, c .first-marks .ensures, e, first-marks _ (p .trued .few))
 

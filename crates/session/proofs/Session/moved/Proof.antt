@@ -4,10 +4,11 @@ use mathlib.Core.List.{List}
 use Prim.Native.Nat.{ℕ, suc, _-_, _<_}
 use native.Mathlib.Omega.{arith}
 use native.Mathlib.Numerals.{add-one}
-use lib.ListN.{take, drop, set, getD}
+use lib.ListN.{drop, set, getD}
+use Rattle.reuse.specs.Limits.{maxExtents, slotCount, levels}
 use Rattle.reuse.specs.Lists.{sum}
 use Rattle.session_sums.specs.declared.Walked.{Walked}
-use Rattle.session_sums.specs.Sums.{sumsOf, zeros, Trued}
+use Rattle.session_sums.specs.Sums.{sumsOf, marksIn, zeros, Trued}
 use Rattle.session.specs.Sessions.{marks, extents}
 use Rattle.session.specs.Reads.{moved}
 use Rattle.session_sums.proofs.Tree.{full, trued-set, take-sums-set}
@@ -22,7 +23,7 @@ start c = c .before .before .before .before
 
 -- what the walk read
 walked : (c : tie.After-above)
-    → c .above .result ≡ record { total = sum (drop (suc (start c .args .k)) (take 512 (start c .args .t1 .sums))); count = zeros 9 (start c .args .k) }
+    → c .above .result ≡ record { total = sum (drop (suc (start c .args .k)) (marksIn (start c .args .t1 .sums))); count = zeros levels (start c .args .k) }
 walked c = c .above .ensures ∙ walked-trued _ _ (start c .pre .trued) (omega (arith, start c .pre .below, start c .pre .room))
 
 -- the marks behind slot k
@@ -30,8 +31,8 @@ total : (c : tie.After-above) → c .above .result .total ≡ sum (drop (suc (st
 unfolding marks
 total c = ap (λ (w : Walked). w .total) (walked c)
 
--- fewer than 256
-small : (c : tie.After-above) → c .above .result .total < 256
+-- fewer than the limit of extents
+small : (c : tie.After-above) → c .above .result .total < maxExtents
 small c = omega (arith, total c, start c .pre .behind)
 
 above-requires : tie.Need-above-requires
@@ -47,7 +48,7 @@ put-mark-requires-2 : tie.Need-put-mark-requires-2
 unfolding extents marks
 put-mark-requires-2 c κs =
     let h = start (c .before .before .before) .pre in
-    (h .room, omega arith, subst (λ (l : List ℕ). Trued 9 512 l) (sym (c .before .put-mark .ensures)) (trued-set 9 512 _ _ 0 (h .trued) full (omega (arith, h .few))))
+    (h .room, omega arith, subst (λ (l : List ℕ). Trued levels slotCount l) (sym (c .before .put-mark .ensures)) (trued-set levels slotCount _ _ 0 (h .trued) full (omega (arith, h .few))))
 
 mul-self : tie.Need-mul-self
 mul-self c = search needs
@@ -97,11 +98,11 @@ returns c =
     let p = start a .pre in
     let s = start a .args .t1 in
     let k = start a .args .k in
-    let n = sum (drop (suc k) (take 512 (s .sums))) in
+    let n = sum (drop (suc k) (marksIn (s .sums))) in
     let back : suc n - 1 ≡ n = omega arith in
-    let e : c .before .put-mark2 .last .0 ≡ sumsOf 9 (set (set (take 512 (s .sums)) k 0) (s .next) 1) =
+    let e : c .before .put-mark2 .last .0 ≡ sumsOf levels (set (set (marksIn (s .sums)) k 0) (s .next) 1) =
     c .before .put-mark2 .ensures
-    ∙ ap (λ (l : List ℕ). sumsOf 9 (set l (s .next) 1)) (ap (take 512) (c .before .before .before .put-mark .ensures) ∙ take-sums-set 9 512 (s .sums) k 0 (p .trued) full) in
+    ∙ ap (λ (l : List ℕ). sumsOf levels (set l (s .next) 1)) (ap (marksIn) (c .before .before .before .put-mark .ensures) ∙ take-sums-set levels slotCount (s .sums) k 0 (p .trued) full) in
     simp (add-one, ← p .here, back, walked a, e)
 
 pub moved-spec : {M : Type 1} → statement M

@@ -1,4 +1,4 @@
--- `summary_beside::beside` meets its contract. The invariant is `Besides`.
+-- `reuse_tables::beside` meets its contract. The invariant is `Besides`.
 use mathlib.Core.Path.{sym, _∙_}
 use Prim.Native.Nat.{_-_}
 use native.Mathlib.Omega.{arith}
@@ -6,11 +6,11 @@ use mathlib.Core.Logic.{⊎-elim}
 use lib.ListN.{length}
 use borrow.Author.Tests.{not-true, not-false}
 use Rattle.reuse_copies.proofs.Padding.{padded-wide}
 use Rattle.reuse_tables.proofs.Lookups.{looked-up}
-use Rattle.summary_beside.proofs.Besides.{Besides, beside-start, beside-more, beside-known, beside-full, beside-end}
+use Rattle.reuse_tables.proofs.Besides.{Besides, beside-start, beside-more, beside-known, beside-full, beside-end}
 use borrow.Author.Needs.{needs}
-use Rattle.summary_beside.proofs.beside.Statement.{statement}
-use Rattle.summary_beside.proofs.beside.Tie as tie
+use Rattle.reuse_tables.proofs.beside.Statement.{statement}
+use Rattle.reuse_tables.proofs.beside.Tie as tie
 
 abbrev Inv-loop : tie.InvT-loop
 Inv-loop words more table row₀ n₀ i₀ row n i = Besides words more row n i
