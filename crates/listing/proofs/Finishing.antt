@@ -1,12 +1,14 @@
 -- What the end of the text gives: one law for each way that the code returns.
-use mathlib.Core.Path.{_≡_, refl, sym, ap, _∙_}
+use mathlib.Core.Path.{_≡_, refl, sym, ap, subst, _∙_}
 use Prim.Native.Nat.{ℕ, zero, suc, _≤_, _<_}
 use native.Mathlib.Omega.{arith}
 use mathlib.Core.List.{List, [], _∷_}
 use mathlib.Core.Bool.{true, false}
 use mathlib.Core.Option.{none}
+use lib.Dec.{eqb}
 use lib.ListN.{length, take}
 use lib.Seq.{length-take-le}
+use borrow.Author.Tests.{eqb-true}
 use Rattle.reuse.proofs.Lists.{by-test}
 use Rattle.texts.specs.Lines.{Answer, to, no, at, stopped, Read, got, refused, finishBy}
 use Rattle.texts.proofs.Tests.{never}
@@ -14,14 +16,20 @@ use Rattle.listing_texts.specs.Feeding.{Taken, empty, inside, whole, State, tak
 use Rattle.listing_texts.specs.Listings.{listed, refusedText}
 use Rattle.listing_tally.specs.Rows.{Tallied, tallyIn, takenBy}
 use Rattle.listing_turns.proofs.Turns.{stateIn}
-use Rattle.listing.specs.Listers.{soundLister, stateOf}
-use Rattle.listing_texts.specs.Pages.{Counted}
+use Rattle.listing_texts.proofs.Lengths.{counted-length, refused-length}
+use Rattle.listing_pages.specs.Texts.{pageOf}
+use Rattle.listing_pages.specs.declared.Page.{Page}
+use Rattle.listing_pages.proofs.Pieces.{page-front, page-len}
+use Rattle.listing.specs.Listers.{refusesText, soundLister, stateOf}
+use Rattle.listing_texts.specs.Pages.{pageBytes, Counted}
 use Rattle.listing_texts.specs.Tallies.{Tally, missesBy}
 use Rattle.listing.specs.declared.Lister.{Lister}
 use Rattle.listing_tally.specs.declared.Phase.{Phase}
 use Rattle.listing_tally.specs.declared.Phase.the-variants.{Empty, Inside, Whole, Stopped}
 use Rattle.listing_texts.specs.declared.Verdict.the-variants.{Listed, Refused}
 use Rattle.listing.proofs.Soundness.{state-sound, state-unsound}
+use Rattle.listing.proofs.Kept.{Kept}
+use Rattle.listing.proofs.Listers.{Wide, sound-kept}
 
 -- the end comes too early where nothing whole is read
 verdict-early : (s : Taken) → takenWhole s ≡ none → (held : List ℕ) → verdictAt (at 0 held s) ≡ Refused 1
@@ -132,3 +140,42 @@ module _ (l : Lister) where
         sym (ap printedAt (by-phase Whole (whole-phase (l .phase) t (w .0) (w .1)))
         ∙ ap (λ (held : List ℕ). printedAt (at 0 held (whole t))) (w .2)
         ∙ print-tally t)
+
+-- the numbers that a text is refused with are small
+number-small : (n : ℕ) → refusesText n ≡ true → n ≤ 9
+unfolding refusesText
+number-small n h =
+    by-test (eqb n 1) (λ e. omega (arith, eqb-true n 1 e))
+    (λ e. by-test (eqb n 2) (λ f. omega (arith, eqb-true n 2 f))
+    (λ f. by-test (eqb n 8) (λ g. omega (arith, eqb-true n 8 g))
+    (λ g. let z : eqb n 9 ≡ true = (simp (e, f, g) at h) in omega (arith, eqb-true n 9 z))))
+
+-- what a text that is kept prints at its end fits a page
+kept-length : (s : State) → Kept s → length (printedAt s) ≤ pageBytes
+unfolding printedAt finishBy
+kept-length (at k [] empty) g = refused-length 1 (omega arith)
+kept-length (at k [] (inside t)) g = refused-length 1 (omega arith)
+kept-length (at k [] (whole t)) g =
+    let w = g .2 in
+    counted-length (t .reads) (t .counts) (omega (arith, w .short)) (record { few = omega (arith, w .few, w .same); whole = omega (arith, w .same, w .all) })
+kept-length (at k (x ∷ held) s) g = refused-length 1 (omega arith)
+kept-length (stopped k n) g = refused-length n (omega (arith, number-small n g))
+
+-- what a text refused with 7 prints does too
+unsound-length : length (printedAt (stopped 0 7)) ≤ pageBytes
+unfolding printedAt finishBy
+unsound-length = refused-length 7 (omega arith)
+
+-- so the output of every lister fits a page
+pub printed-fits : (l : Lister) → Wide l → length (printedAt (stateOf l)) ≤ pageBytes
+printed-fits l w =
+    by-test (soundLister l) (λ e. kept-length (stateOf l) (sound-kept l e w))
+    (λ e. subst (λ (s : State). length (printedAt s) ≤ pageBytes) (sym (state-unsound l e)) unsound-length)
+
+-- the page of a lister has room for its text
+pub page-fits : (l : Lister) → Wide l → (r : Page) → r ≡ pageOf (printedAt (stateOf l)) → r .len ≤ pageBytes
+page-fits l w r e = omega (arith, ap (λ (p : Page). p .len) e, page-len (printedAt (stateOf l)), printed-fits l w)
+
+-- and shows it
+pub page-shows : (l : Lister) (r : Page) → r ≡ pageOf (printedAt (stateOf l)) → take (r .len) (r .bytes) ≡ printedAt (stateOf l)
+page-shows l r e = ap (λ (p : Page). take (p .len) (p .bytes)) e ∙ page-front (printedAt (stateOf l))

@@ -1,4 +1,7 @@
-pub mod Feeds
+pub mod Rows
+pub mod Kept
 pub mod Soundness
-pub mod Cuttings
+pub mod Listers
+pub mod Feeds
 pub mod Finishing
+pub mod Cuttings

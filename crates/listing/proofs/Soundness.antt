@@ -1,87 +1,153 @@
 -- Listers that stand for a text taken so far: one law for each way that the code returns, and what soundness gives.
-use mathlib.Core.Path.{_≡_, refl}
-use Prim.Native.Nat.{ℕ, _+_, _≤_, _<_}
-use mathlib.Core.List.{List, []}
-use mathlib.Core.Bool.{true, false, _&&_}
+use mathlib.Core.Path.{_≡_, refl, sym, ap, _∙_}
+use Prim.Native.Nat.{ℕ, _+_, _-_, _≤_, _<_}
+use native.Mathlib.Omega.{arith}
+use mathlib.Core.List.{List}
+use mathlib.Core.Bool.{Bool, true, false, _&&_}
 use lib.Dec.{eqb, leb}
-use lib.ListN.{length, take}
-use borrow.Author.Tests.{leb-true, eqb-true, le-leb, lt-leb}
+use lib.ListN.{length, take, drop, length-drop}
+use borrow.Author.Tests.{leb-true, eqb-true, le-leb, lt-leb, eq-eqb, ne-eqb}
 use Rattle.reuse.specs.Limits.{maxReads, maxExtents}
 use Rattle.reuse.specs.Lists.{distinct, sum}
-use Rattle.reuse.proofs.Lists.{both, by-test}
-use Rattle.texts.specs.Lines.{at, stopped}
+use Rattle.reuse.proofs.Lists.{both}
+use Rattle.reuse_rows.specs.Rows.{blank}
+use Rattle.texts.specs.Lines.{stopped, lineCount}
 use Rattle.texts.specs.Logs.{longestLine}
-use Rattle.texts.proofs.Tests.{never}
-use Rattle.listing_texts.specs.Feeding.{empty}
+use Rattle.texts.specs.Words.{runOf}
+use Rattle.texts_pieces.specs.Pieces.{lineLength}
 use Rattle.listing_tally.specs.Rows.{Tallied}
 use Rattle.listing_turns.proofs.Turns.{stateIn}
-use Rattle.listing.specs.Listers.{soundLister, stateOf}
+use Rattle.listing.specs.Listers.{holdsLine, holdsTally, holdsPhase, soundLister, stateOf}
 use Rattle.listing.specs.declared.Lister.{Lister}
-use Rattle.listing_tally.specs.declared.Phase.the-variants.{Empty}
+use Rattle.listing.proofs.Rows.{line-clear, run-blank}
 
--- a lister with nothing taken yet, whatever stands in its rows
-pub state-new : (line stack counts : List ℕ)
-    → stateOf (record { line = line; held = 0; phase = Empty; reads = 0; extents = 0; stack = stack; counts = counts }) ≡ at 0 [] empty
-unfolding soundLister stateOf distinct sum
-state-new line stack counts = refl
+-- what is held of a line
+module _ (line : List ℕ) (held : ℕ) where
+  -- more bytes than a line has
+  pub line-over : longestLine < held → false ≡ holdsLine line held
+  unfolding holdsLine
+  line-over h = rw (lt-leb held longestLine h)
+
+  module _ (fits : held ≤ longestLine) (wide : length line ≡ longestLine) (n : ℕ) (is : n ≡ lineLength held (drop 0 line)) where
+    -- whether a line ends among them
+    ends-is : eqb n held ≡ eqb (lineCount (take held line)) 0
+    ends-is = ap (λ (k : ℕ). eqb k held) is ∙ line-clear held line (omega arith)
+
+    -- one does
+    pub line-ends : (n ≡ held → ⊥) → false ≡ holdsLine line held
+    unfolding holdsLine
+    line-ends h = let e : eqb (lineCount (take held line)) 0 ≡ false = sym ends-is ∙ ne-eqb n held h in rw (le-leb held longestLine fits, e)
+
+    -- none does: the run of 0 after them says
+    pub line-left : n ≡ held → (k : ℕ) → k ≡ runOf (longestLine - held) 0 (drop held line) → eqb k (longestLine - held) ≡ holdsLine line held
+    unfolding holdsLine
+    line-left h k e =
+        let z : eqb (lineCount (take held line)) 0 ≡ true = sym ends-is ∙ eq-eqb n held h in
+        let w : length (drop held line) ≡ longestLine - held = length-drop held line ∙ omega (arith, wide) in
+        let b : eqb k (longestLine - held) ≡ blank (drop held line) =
+        ap (λ (j : ℕ). eqb j (longestLine - held)) e
+        ∙ ap (λ (j : ℕ). eqb (runOf j 0 (drop held line)) j) (sym w)
+        ∙ run-blank (drop held line) in
+        b ∙ rw (le-leb held longestLine fits, z)
+
+  -- what it gives
+  pub line-facts : holdsLine line held ≡ true → (held ≤ longestLine) × (lineCount (take held line) ≡ 0) × (blank (drop held line) ≡ true)
+  unfolding holdsLine
+  line-facts h =
+      let a = both (leb held longestLine && eqb (lineCount (take held line)) 0) (blank (drop held line)) h in
+      let b = both (leb held longestLine) (eqb (lineCount (take held line)) 0) (a .0) in
+      (leb-true held longestLine (b .0), eqb-true (lineCount (take held line)) 0 (b .1), a .1)
+
+-- the tally in two rows
+module _ (reads extents : ℕ) (stack counts : List ℕ) where
+  -- more extents than the limit
+  pub tally-extents : maxExtents < extents → false ≡ holdsTally reads extents stack counts
+  unfolding holdsTally
+  tally-extents h = rw (lt-leb extents maxExtents h)
+
+  module _ (few : extents ≤ maxExtents) where
+    -- more reads than the limit
+    pub tally-reads : maxReads < reads → false ≡ holdsTally reads extents stack counts
+    unfolding holdsTally
+    tally-reads h = rw (le-leb extents maxExtents few, lt-leb reads maxReads h)
+
+    module _ (short : reads ≤ maxReads) where
+      -- an extent twice
+      pub tally-twice : distinct (take extents stack) ≡ false → false ≡ holdsTally reads extents stack counts
+      unfolding holdsTally
+      tally-twice h = rw (le-leb extents maxExtents few, le-leb reads maxReads short, h)
+
+      module _ (once : distinct (take extents stack) ≡ true) (total : ℕ) (is : total ≡ sum (take extents counts)) where
+        -- reads that are not counted, or counts that no read has
+        pub tally-other : (extents + total ≡ reads → ⊥) → false ≡ holdsTally reads extents stack counts
+        unfolding holdsTally
+        tally-other h =
+            rw (le-leb extents maxExtents few, le-leb reads maxReads short, once, ne-eqb (extents + sum (take extents counts)) reads (λ z. h (omega (arith, z, is))))
+
+        -- all reads are: what stands after the tally says
+        pub tally-left : extents + total ≡ reads → (a b : Bool) → a ≡ blank (drop extents stack) → b ≡ blank (drop extents counts) → a && b ≡ holdsTally reads extents stack counts
+        unfolding holdsTally
+        tally-left h a b p q =
+            rw (le-leb extents maxExtents few, le-leb reads maxReads short, once, eq-eqb (extents + sum (take extents counts)) reads (omega (arith, h, is)), p, q)
+
+  -- what it gives
+  pub tally-facts : holdsTally reads extents stack counts ≡ true → length stack ≡ maxExtents → length counts ≡ maxExtents → Tallied reads extents stack counts
+  unfolding holdsTally
+  tally-facts h s n =
+      let few = leb extents maxExtents in
+      let short = leb reads maxReads in
+      let once = distinct (take extents stack) in
+      let all = eqb (extents + sum (take extents counts)) reads in
+      let a = both (few && short && once && all && blank (drop extents stack)) (blank (drop extents counts)) h in
+      let b = both (few && short && once && all) (blank (drop extents stack)) (a .0) in
+      let d = both (few && short && once) all (b .0) in
+      let e = both (few && short) once (d .0) in
+      let f = both few short (e .0) in
+      record {
+        stack-wide = s;
+        counts-wide = n;
+        few = leb-true extents maxExtents (f .0);
+        once = e .1;
+        all = eqb-true (extents + sum (take extents counts)) reads (d .1);
+        short = leb-true reads maxReads (f .1);
+      }
 
 module _ (l : Lister) where
-  -- more bytes held than a line has
-  pub sound-held : longestLine < l .held → false ≡ soundLister l
+  -- it is sound if its line, its tally and its phase are
+  pub sound-line : false ≡ holdsLine (l .line) (l .held) → false ≡ soundLister l
   unfolding soundLister
-  sound-held h = rw (lt-leb (l .held) longestLine h)
+  sound-line e = rw (← e)
 
-  -- more extents than the limit
-  pub sound-extents : l .held ≤ longestLine → maxExtents < l .extents → false ≡ soundLister l
+  -- its line is
+  pub sound-tally : true ≡ holdsLine (l .line) (l .held) → false ≡ holdsTally (l .reads) (l .extents) (l .stack) (l .counts) → false ≡ soundLister l
   unfolding soundLister
-  sound-extents a h = rw (le-leb (l .held) longestLine a, lt-leb (l .extents) maxExtents h)
+  sound-tally e f = rw (← e, ← f)
 
-  -- more reads than the limit
-  pub sound-reads : l .held ≤ longestLine → l .extents ≤ maxExtents → maxReads < l .reads → false ≡ soundLister l
+  -- its tally is too
+  pub sound-phase : true ≡ holdsLine (l .line) (l .held) → true ≡ holdsTally (l .reads) (l .extents) (l .stack) (l .counts)
+      → holdsPhase (l .phase) (l .held) (l .reads) ≡ soundLister l
   unfolding soundLister
-  sound-reads a b h = rw (le-leb (l .held) longestLine a, le-leb (l .extents) maxExtents b, lt-leb (l .reads) maxReads h)
+  sound-phase e f = rw (← e, ← f)
 
-  -- an extent twice
-  pub sound-twice : l .held ≤ longestLine → l .extents ≤ maxExtents → l .reads ≤ maxReads → distinct (take (l .extents) (l .stack)) ≡ false → false ≡ soundLister l
+  -- what a sound one gives
+  pub sound-parts : soundLister l ≡ true
+      → (holdsLine (l .line) (l .held) ≡ true) × (holdsTally (l .reads) (l .extents) (l .stack) (l .counts) ≡ true) × (holdsPhase (l .phase) (l .held) (l .reads) ≡ true)
   unfolding soundLister
-  sound-twice a b d h = rw (le-leb (l .held) longestLine a, le-leb (l .extents) maxExtents b, le-leb (l .reads) maxReads d, h)
-
-  -- none of these: the sum says
-  pub sound-all : l .held ≤ longestLine → l .extents ≤ maxExtents → l .reads ≤ maxReads → distinct (take (l .extents) (l .stack)) ≡ true
-      → (total : ℕ) → total ≡ sum (take (l .extents) (l .counts)) → eqb (l .extents + total) (l .reads) ≡ soundLister l
-  unfolding soundLister
-  sound-all a b d h total e = rw (le-leb (l .held) longestLine a, le-leb (l .extents) maxExtents b, le-leb (l .reads) maxReads d, h, e)
+  sound-parts h =
+      let line = holdsLine (l .line) (l .held) in
+      let tally = holdsTally (l .reads) (l .extents) (l .stack) (l .counts) in
+      let a = both (line && tally) (holdsPhase (l .phase) (l .held) (l .reads)) h in
+      let b = both line tally (a .0) in
+      (b .0, b .1, a .1)
 
   -- what is held of a line fits
   pub sound-fits : soundLister l ≡ true → l .held ≤ longestLine
-  unfolding soundLister
-  sound-fits h =
-      by-test (leb (l .held) longestLine) (λ e. leb-true (l .held) longestLine e) (λ e. let z : false ≡ true = (simp e at h) in never (cc))
+  sound-fits h = line-facts (l .line) (l .held) (sound-parts h .0) .0
 
   -- what is held of a line fits, and the rows hold a tally
   pub sound-facts : soundLister l ≡ true → length (l .stack) ≡ maxExtents → length (l .counts) ≡ maxExtents
       → (l .held ≤ longestLine) × Tallied (l .reads) (l .extents) (l .stack) (l .counts)
-  unfolding soundLister
-  sound-facts h s n =
-      let fits = leb (l .held) longestLine in
-      let few = leb (l .extents) maxExtents in
-      let short = leb (l .reads) maxReads in
-      let once = distinct (take (l .extents) (l .stack)) in
-      let all = eqb (l .extents + sum (take (l .extents) (l .counts))) (l .reads) in
-      let a = both (fits && few && short && once) all h in
-      let b = both (fits && few && short) once (a .0) in
-      let d = both (fits && few) short (b .0) in
-      let e = both fits few (d .0) in (
-        leb-true (l .held) longestLine (e .0),
-        record {
-          stack-wide = s;
-          counts-wide = n;
-          few = leb-true (l .extents) maxExtents (e .1);
-          once = b .1;
-          all = eqb-true (l .extents + sum (take (l .extents) (l .counts))) (l .reads) (a .1);
-          short = leb-true (l .reads) maxReads (d .1);
-        },
-      )
+  sound-facts h s n = (sound-fits h, tally-facts (l .reads) (l .extents) (l .stack) (l .counts) (sound-parts h .1) s n)
 
   -- a sound lister stands for what its words say
   pub state-sound : soundLister l ≡ true → stateOf l ≡ stateIn (l .phase) (l .reads) (l .extents) (l .stack) (l .counts) (take (l .held) (l .line))

@@ -1,31 +1,90 @@
--- Listers: what the words of one stand for, and when they stand for anything.
-use Prim.Native.Nat.{_+_}
-use mathlib.Core.Bool.{Bool, cond, not, _&&_}
+-- Listers: when the words of one stand for a text taken so far, what they stand for, and the lister of each text.
+use Prim.Native.Nat.{ℕ, _+_}
+use mathlib.Core.List.{List, []}
+use mathlib.Core.Bool.{Bool, true, cond, not, _&&_, _||_}
 use lib.Dec.{eqb, leb}
-use lib.ListN.{take}
+use lib.ListN.{length, take, drop, replicate}
 use Rattle.reuse.specs.Limits.{maxReads, maxExtents}
 use Rattle.reuse.specs.Lists.{distinct, sum}
-use Rattle.texts.specs.Lines.{stopped}
+use Rattle.reuse_rows.specs.Rows.{blank, putAt, padded}
+use Rattle.texts.specs.Lines.{at, stopped, lineCount}
 use Rattle.texts.specs.Logs.{longestLine}
-use Rattle.listing_texts.specs.Feeding.{State, stateBy}
+use Rattle.listing_texts.specs.Tallies.{Tally, noReads}
+use Rattle.listing_texts.specs.Feeding.{empty, inside, whole, State, takePiece, stateBy}
 use Rattle.listing_tally.specs.Rows.{tallyIn, takenBy}
+use Rattle.listing_tally.specs.declared.Phase.{Phase}
+use Rattle.listing_tally.specs.declared.Phase.the-variants.{Empty, Inside, Whole, Stopped}
 use Rattle.listing_turns.specs.Turns.{isStopped}
 use Rattle.listing.specs.declared.Lister.{Lister}
+
+-- the bytes held of a line that has not ended: no more than a line has, none of them 10, and 0 after them
+unfoldable pub holdsLine : List ℕ → ℕ → Bool
+holdsLine line held = leb held longestLine && eqb (lineCount (take held line)) 0 && blank (drop held line)
+
+-- the tally in two rows: within the limits, no extent twice, each read counted or cold, and 0 after it
+unfoldable pub holdsTally : ℕ → ℕ → List ℕ → List ℕ → Bool
+holdsTally reads extents stack counts =
+    leb extents maxExtents
+    && leb reads maxReads
+    && distinct (take extents stack)
+    && eqb (extents + sum (take extents counts)) reads
+    && blank (drop extents stack)
+    && blank (drop extents counts)
+
+-- the numbers that a log text is refused with
+unfoldable pub refusesText : ℕ → Bool
+refusesText n = eqb n 1 || eqb n 2 || eqb n 8 || eqb n 9
+
+-- how far the text is: before its first line it has no reads; refused, it keeps nothing but its number
+unfoldable pub holdsPhase : Phase → ℕ → ℕ → Bool
+holdsPhase Empty held reads = eqb reads 0
+holdsPhase Inside held reads = true
+holdsPhase Whole held reads = true
+holdsPhase (Stopped n) held reads = eqb held 0 && eqb reads 0 && refusesText n
 
 -- a lister that stands for a text taken so far
 unfoldable pub soundLister : Lister → Bool
 soundLister l =
-    leb (l .held) longestLine
-    && leb (l .extents) maxExtents
-    && leb (l .reads) maxReads
-    && distinct (take (l .extents) (l .stack))
-    && eqb (l .extents + sum (take (l .extents) (l .counts))) (l .reads)
+    holdsLine (l .line) (l .held)
+    && holdsTally (l .reads) (l .extents) (l .stack) (l .counts)
+    && holdsPhase (l .phase) (l .held) (l .reads)
 
 -- what it stands for; one that is not sound for a text refused with 7
 unfoldable pub stateOf : Lister → State
 stateOf l =
     cond (soundLister l) (stateBy (takenBy (l .phase) (tallyIn (l .reads) (l .extents) (l .stack) (l .counts))) (take (l .held) (l .line))) (stopped 0 7)
 
+-- a line with nothing held of it
+unfoldable pub blankLine : List ℕ
+blankLine = replicate longestLine 0
+
+-- the lister that holds these bytes of a line, this phase and this tally, and 0 after them
+unfoldable pub listerWith : List ℕ → Phase → Tally → Lister
+listerWith held phase t = record {
+  line = putAt blankLine 0 held;
+  held = length held;
+  phase = phase;
+  reads = t .reads;
+  extents = length (t .recent);
+  stack = padded (t .recent);
+  counts = padded (t .counts);
+}
+
+-- the lister of a text taken so far; that of a refused one holds nothing but its number
+unfoldable pub listerOf : State → Lister
+listerOf (at k held empty) = listerWith held Empty noReads
+listerOf (at k held (inside t)) = listerWith held Inside t
+listerOf (at k held (whole t)) = listerWith held Whole t
+listerOf (stopped k n) = listerWith [] (Stopped n) noReads
+
+-- the lister of no text yet
+unfoldable pub emptyLister : Lister
+emptyLister = listerOf (at 0 [] empty)
+
 -- a lister that takes more of its text: sound, and not refused
 abbrev pub takesMore : Lister → Bool
 takesMore l = not (isStopped (l .phase)) && soundLister l
+
+-- a lister after one piece more; one that takes no more is as it was
+unfoldable pub fedOf : Lister → List ℕ → Lister
+fedOf l bytes = cond (takesMore l) (listerOf (takePiece (stateOf l) bytes)) l

@@ -1,13 +1,13 @@
 // The listing of a log text: its reads, its cold reads, and for every size from 1 to the number of its extents the misses.
 ghost use mathlib.Core.Path.{_≡_};
-ghost use mathlib.Core.List.{[]};
 ghost use Prim.Native.Nat.{_≤_};
-ghost use mathlib.Core.Bool.{false};
 ghost use lib.ListN.{take};
-ghost use Rattle.texts.specs.Lines.{at};
-ghost use Rattle.listing_texts.specs.Feeding.{empty, takePiece, unnumbered, printedAt, verdictAt};
-ghost use Rattle.listing_texts.specs.Pages.{pageBytes};
-ghost use Rattle.listing.specs.Listers.{soundLister, stateOf, takesMore};
+ghost use Rattle.reuse.specs.Limits.{maxExtents};
+ghost use Rattle.texts.specs.Logs.{longestLine};
+ghost use Rattle.listing_texts.specs.Feeding.{stateBy, printedAt, verdictAt};
+ghost use Rattle.listing_tally.specs.Rows.{tallyIn, takenBy};
+ghost use Rattle.listing_pages.specs.Texts.{pageOf};
+ghost use Rattle.listing.specs.Listers.{holdsLine, holdsTally, refusesText, holdsPhase, soundLister, stateOf, listerWith, listerOf, emptyLister, takesMore, fedOf};
 pub use listing_pages::PAGE_BYTES;
 pub use listing_pages::Page;
 pub use listing_tally::Phase;
@@ -24,10 +24,95 @@ pub struct Lister {
     pub counts: [u32; reuse::MAX_EXTENTS],
 }
 
+// Whether a log text is refused with this number.
+fn refuses_text(n: u32) -> bool
+    ensures { λ r. ⌜ r ≡ refusesText n ⌝ }
+{
+    if n == 1 {
+        return true;
+    }
+    if n == 2 {
+        return true;
+    }
+    if n == 8 {
+        return true;
+    }
+    n == 9
+}
+
+// Whether so many bytes held and so many reads go with how far the text is.
+fn holds_phase(phase: Phase, held: usize, reads: u32) -> bool
+    ensures { λ r. ⌜ r ≡ holdsPhase phase held reads ⌝ }
+{
+    match phase {
+        Phase::Empty => reads == 0,
+        Phase::Inside => true,
+        Phase::Whole => true,
+        Phase::Stopped(n) => {
+            if held != 0 {
+                return false;
+            }
+            if reads != 0 {
+                return false;
+            }
+            refuses_text(n)
+        }
+    }
+}
+
+// The lister that holds the first bytes of a line, this phase and the tally in the first words of two rows, and 0 after them.
+fn laid(
+    line: [u8; listing_tally::LONGEST],
+    held: usize,
+    phase: Phase,
+    reads: u32,
+    extents: usize,
+    stack: [u32; reuse::MAX_EXTENTS],
+    counts: [u32; reuse::MAX_EXTENTS],
+) -> Lister
+    requires { ⌜ (held ≤ longestLine) × (extents ≤ maxExtents) ⌝ }
+    ensures { λ r. ⌜ r ≡ listerWith (take held line) phase (tallyIn reads extents stack counts) ⌝ }
+{
+    let mut row = [0u8; listing_tally::LONGEST];
+    reuse_copies::put_bytes(&mut row, 0, &line[..held]);
+    let recent = reuse_copies::padded(&stack[..extents]);
+    let counted = reuse_copies::padded(&counts[..extents]);
+    Lister {
+        line: row,
+        held,
+        phase,
+        reads,
+        extents,
+        stack: recent,
+        counts: counted,
+    }
+}
+
+// The lister of a text taken so far, by its parts; a refused one keeps nothing but its number.
+fn stands(
+    line: [u8; listing_tally::LONGEST],
+    held: usize,
+    phase: Phase,
+    reads: u32,
+    extents: usize,
+    stack: [u32; reuse::MAX_EXTENTS],
+    counts: [u32; reuse::MAX_EXTENTS],
+) -> Lister
+    requires { ⌜ (held ≤ longestLine) × (extents ≤ maxExtents) ⌝ }
+    ensures { λ r. ⌜ r ≡ listerOf (stateBy (takenBy phase (tallyIn reads extents stack counts)) (take held line)) ⌝ }
+{
+    match phase {
+        Phase::Empty => laid(line, held, phase, 0, 0, stack, counts),
+        Phase::Inside => laid(line, held, phase, reads, extents, stack, counts),
+        Phase::Whole => laid(line, held, phase, reads, extents, stack, counts),
+        Phase::Stopped(_) => laid(line, 0, phase, 0, 0, stack, counts),
+    }
+}
+
 impl Lister {
     // Nothing taken yet.
     pub fn new() -> Lister
-        ensures { λ r. ⌜ stateOf r ≡ at 0 [] empty ⌝ }
+        ensures { λ r. ⌜ r ≡ emptyLister ⌝ }
     {
         Lister {
             line: [0; listing_tally::LONGEST],
@@ -40,13 +125,26 @@ impl Lister {
         }
     }
 
-    // Whether the lister stands for a text taken so far.
-    pub fn sound(self) -> bool
-        ensures { λ r. ⌜ r ≡ soundLister self ⌝ }
+    // Whether what is held of a line begins one, and 0 stands after it.
+    fn holds_line(self) -> bool
+        ensures { λ r. ⌜ r ≡ holdsLine (self .line) (self .held) ⌝ }
     {
-        if listing_tally::LONGEST < self.held {
+        let held = self.held;
+        if listing_tally::LONGEST < held {
             return false;
         }
+        let line = self.line;
+        if texts_pieces::line_length(&line, 0, held) != held {
+            return false;
+        }
+        let left = listing_tally::LONGEST - held;
+        texts_pieces::run_of(&line, held, 0, left) == left
+    }
+
+    // Whether the rows hold a tally, and 0 after it.
+    fn holds_tally(self) -> bool
+        ensures { λ r. ⌜ r ≡ holdsTally (self .reads) (self .extents) (self .stack) (self .counts) ⌝ }
+    {
         let v = self.extents;
         if reuse::MAX_EXTENTS < v {
             return false;
@@ -59,11 +157,31 @@ impl Lister {
             return false;
         }
         let counts = self.counts;
-        v as u64 + reuse_rows::total(&counts[..v]) == self.reads as u64
+        if v as u64 + reuse_rows::total(&counts[..v]) != self.reads as u64 {
+            return false;
+        }
+        if !reuse_rows::all_zero(&stack[v..]) {
+            return false;
+        }
+        reuse_rows::all_zero(&counts[v..])
+    }
+
+    // Whether the lister stands for a text taken so far.
+    pub fn sound(self) -> bool
+        ensures { λ r. ⌜ r ≡ soundLister self ⌝ }
+    {
+        if !self.holds_line() {
+            return false;
+        }
+        if !self.holds_tally() {
+            return false;
+        }
+        let phase = self.phase;
+        holds_phase(phase, self.held, self.reads)
     }
 
     // Whether the lister is sound and its text not refused.
-    fn goes(self) -> bool
+    pub fn takes_more(self) -> bool
         ensures { λ r. ⌜ r ≡ takesMore self ⌝ }
     {
         let phase = self.phase;
@@ -73,12 +191,11 @@ impl Lister {
         self.sound()
     }
 
-    // One piece of the text more. A lister that is not sound, or that is refused, comes back word for word.
+    // One piece of the text more. A lister that takes no more comes back word for word.
     pub fn feed(self, bytes: &[u8]) -> Lister
-        ensures is { λ r. ⌜ stateOf r ≡ unnumbered (takePiece (stateOf self) (now (bytes .entry))) ⌝ }
-        ensures kept { λ r. ⌜ (takesMore self ≡ false → r ≡ self) ⌝ }
+        ensures { λ r. ⌜ r ≡ fedOf self (now (bytes .entry)) ⌝ }
     {
-        if !self.goes() {
+        if !self.takes_more() {
             return self;
         }
         let mut phase = self.phase;
@@ -108,15 +225,7 @@ impl Lister {
             reads = t.reads;
             extents = t.extents;
         }
-        Lister {
-            line,
-            held,
-            phase,
-            reads,
-            extents,
-            stack,
-            counts,
-        }
+        stands(line, held, phase, reads, extents, stack, counts)
     }
 
     // Whether the text taken is listed or refused, if it ends here.
@@ -142,7 +251,7 @@ impl Lister {
 
     // The whole output at the end of the text.
     pub fn finish(self) -> Page
-        ensures { λ r. ⌜ (take (r .len) (r .bytes) ≡ printedAt (stateOf self)) × (r .len ≤ pageBytes) ⌝ }
+        ensures { λ r. ⌜ r ≡ pageOf (printedAt (stateOf self)) ⌝ }
     {
         let verdict = self.verdict();
         match verdict {

@@ -1,5 +1,5 @@
 -- Texts laid in pieces: each is its text end to end, and the page of a text.
-use mathlib.Core.Path.{_≡_, refl, sym, ap, subst, _∙_}
+use mathlib.Core.Path.{_≡_, refl, sym, ap, _∙_}
 use Prim.Native.Nat.{ℕ, zero, suc, _+_, _≤_}
 use native.Mathlib.Omega.{arith}
 use mathlib.Core.List.{List, _++_, append-assoc}
@@ -54,26 +54,22 @@ blank-length : length blankPage ≡ pageBytes
 unfolding blankPage
 blank-length = length-replicate {A = ℕ} pageBytes 0
 
--- a page that shows a text, and nothing else
-abbrev pub Shows : List ℕ → Page → Type 0
-Shows text r = (take (r .len) (r .bytes) ≡ text) × (r .len ≤ pageBytes) × (r ≡ pageOf text)
-
--- the page of a text that fits shows it
-pub page-shows : (text : List ℕ) → length text ≤ pageBytes → Shows text (pageOf text)
+-- the page of a text shows it
+pub page-front : (text : List ℕ) → take (pageOf text .len) (pageOf text .bytes) ≡ text
 unfolding pageOf
-page-shows text h = (laid-front blankPage text, h, refl)
+page-front text = laid-front blankPage text
+
+-- it has as many bytes
+pub page-len : (text : List ℕ) → pageOf text .len ≡ length text
+unfolding pageOf
+page-len text = refl
 
 -- a text laid in pieces on a blank page
-pub shows-laid : (text : List ℕ) (pieces : List (List ℕ)) → endToEnd pieces ≡ text → length text ≤ pageBytes
-    → (page : List ℕ) (next : ℕ) → laidAt page next ≡ layAll (laidAt blankPage 0) pieces → Shows text (record { bytes = page; len = next })
+pub page-laid : (text : List ℕ) (pieces : List (List ℕ)) → endToEnd pieces ≡ text → length text ≤ pageBytes
+    → (page : List ℕ) (next : ℕ) → laidAt page next ≡ layAll (laidAt blankPage 0) pieces → record { bytes = page; len = next } ≡ pageOf text
 unfolding pageOf
-shows-laid text pieces e h page next p =
+page-laid text pieces e h page next p =
     let z : 0 + length (endToEnd pieces) ≡ length text = omega (arith, ap length e) in
     let q : laidAt page next ≡ laidAt (putAt blankPage 0 text) (length text) =
     p ∙ all-fit pieces blankPage 0 (omega (arith, blank-length)) ∙ rw (z, e) in
-    let r : record { bytes = page; len = next } ≡ pageOf text = ap (λ (d : Laid). record { bytes = d .page; len = d .at }) q in
-    subst (λ (v : Page). Shows text v) (sym r) (page-shows text h)
-
--- the same text
-pub shows-same : (r : Page) (t u : List ℕ) → t ≡ u → Shows t r → Shows u r
-shows-same r t u e s = subst (λ (l : List ℕ). Shows l r) e s
+    ap (λ (d : Laid). record { bytes = d .page; len = d .at }) q

@@ -1,10 +1,9 @@
 // Pages of output: that of a listing, and that of a refusal.
 ghost use mathlib.Core.Path.{_≡_};
-ghost use Prim.Native.Nat.{_≤_};
-ghost use lib.ListN.{length, take};
+ghost use lib.ListN.{length};
 ghost use Rattle.listing_texts.specs.Listings.{refusedText};
 ghost use Rattle.listing_texts.specs.Tallies.{missesBy};
-ghost use Rattle.listing_texts.specs.Pages.{Counted, pageBytes, pageText};
+ghost use Rattle.listing_texts.specs.Pages.{Counted, pageText};
 ghost use Rattle.listing_rows.specs.Laying.{laidAt, layAll};
 ghost use Rattle.listing_pages.specs.Texts.{rowsPieces, listingPieces, refusedPieces, pageOf};
 
@@ -57,7 +56,7 @@ fn put_refused(page: &mut [u8], n: u32) -> usize
 
 // The page of a refusal.
 pub fn refused_page(n: u32) -> Page
-    ensures { λ r. ⌜ (take (r .len) (r .bytes) ≡ refusedText n) × (r .len ≤ pageBytes) × (r ≡ pageOf (refusedText n)) ⌝ }
+    ensures { λ r. ⌜ r ≡ pageOf (refusedText n) ⌝ }
 {
     let mut bytes = [0u8; PAGE_BYTES];
     let len = put_refused(&mut bytes, n);
@@ -66,7 +65,7 @@ pub fn refused_page(n: u32) -> Page
 
 // The page of a listing: so many reads, with these counts of the distances. Refusal 7 where they do not add up.
 pub fn listing_page(reads: u32, counts: &[u32]) -> Page
-    ensures { λ r. ⌜ (take (r .len) (r .bytes) ≡ pageText reads (now (counts .entry))) × (r .len ≤ pageBytes) × (r ≡ pageOf (pageText reads (now (counts .entry)))) ⌝ }
+    ensures { λ r. ⌜ r ≡ pageOf (pageText reads (now (counts .entry))) ⌝ }
 {
     let cold = counts.len();
     if reuse::MAX_EXTENTS < cold {

@@ -1,5 +1,5 @@
 -- `listing_memory::list` meets its contract.
-use mathlib.Core.Path.{_≡_, sym, ap, _∙_}
+use mathlib.Core.Path.{_≡_, sym, ap, subst, _∙_}
 use Prim.Native.Nat.{_+_, _≤_}
 use native.Mathlib.Omega.{arith}
 use lib.ListN.{length, take}
@@ -9,9 +9,13 @@ use Rattle.reuse_copies.proofs.Puts.{placed-fits}
 use Rattle.summary_calls.specs.Calls.{Wrote}
 use Rattle.texts.specs.Logs.{logOf}
 use Rattle.listing_texts.specs.declared.Verdict.the-variants.{Listed}
-use Rattle.listing_texts.specs.Feeding.{verdictBy}
+use Rattle.listing_texts.specs.Feeding.{printedAt, verdictBy, verdictAt}
 use Rattle.listing_texts.specs.Listings.{listingOf}
 use Rattle.listing_texts.specs.Pages.{pageBytes}
+use Rattle.listing.specs.declared.Lister.{Lister}
+use Rattle.listing.specs.Listers.{stateOf, emptyLister, fedOf}
+use Rattle.listing.proofs.Listers.{Wide, new-wide, fed-wide}
+use Rattle.listing.proofs.Finishing.{page-fits, page-shows}
 use Rattle.listing.proofs.Cuttings.{printed-whole, verdict-whole}
 use Rattle.listing_memory.proofs.Listed.{list-refused, list-short, list-all}
 use borrow.Author.Needs.{needs}
@@ -26,22 +30,28 @@ given c = c .before .before .before .before .before
 abbrev judge : tie.After-finish → tie.After-verdict
 judge c = c .before .before .before
 
--- the text, fed to a new lister, is judged as its definition says
+-- the lister is a new one, fed the text
+fed-is : (c : tie.After-verdict) → c .before .feed .result ≡ fedOf emptyLister (given c .args .text .now)
+fed-is c = c .before .feed .ensures ∙ ap (λ (l : Lister). fedOf l (given c .args .text .now)) (c .before .before .new .ensures)
+
+-- it is judged as the text's definition says
 judged : (c : tie.After-verdict) → c .verdict .result ≡ verdictBy (logOf (given c .args .text .now))
-judged c =
-    c .verdict .ensures
-    ∙ verdict-whole (c .before .before .new .result) (c .before .feed .result) (given c .args .text .now) (c .before .before .new .ensures) (c .before .feed .ensures .0)
+judged c = c .verdict .ensures ∙ ap (λ (l : Lister). verdictAt (stateOf l)) (fed-is c) ∙ verdict-whole (given c .args .text .now)
 
 -- and printed so
 printed : (c : tie.After-finish) → take (c .finish .result .len) (c .finish .result .bytes) ≡ listingOf (given (judge c) .args .text .now)
 printed c =
-    let v = judge c in
-    c .finish .ensures .0
-    ∙ printed-whole (v .before .before .new .result) (v .before .feed .result) (given v .args .text .now) (v .before .before .new .ensures) (v .before .feed .ensures .0)
+    page-shows (judge c .before .feed .result) (c .finish .result) (c .finish .ensures)
+    ∙ ap (λ (l : Lister). printedAt (stateOf l)) (fed-is (judge c))
+    ∙ printed-whole (given (judge c) .args .text .now)
 
 -- the page holds what was printed
 holds : (c : tie.After-finish) → c .finish .result .len ≤ length (c .finish .result .bytes)
-holds c = let w : length (c .finish .result .bytes) ≡ pageBytes = search needs in omega (arith, w, c .finish .ensures .1)
+holds c =
+    let w : length (c .finish .result .bytes) ≡ pageBytes = search needs in
+    let l = judge c .before .feed .result in
+    let wide : Wide l = subst Wide (sym (fed-is (judge c))) (fed-wide emptyLister (given (judge c) .args .text .now) new-wide) in
+    omega (arith, w, page-fits l wide (c .finish .result) (c .finish .ensures))
 
 -- the text is listed
 listed : (c : tie.After-finish) → verdictBy (logOf (given (judge c) .args .text .now)) ≡ Listed

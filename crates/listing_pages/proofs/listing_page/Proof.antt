@@ -10,8 +10,8 @@ use Rattle.listing_texts.specs.Pages.{Counted}
 use Rattle.listing_texts.specs.Tallies.{missesBy}
 use Rattle.listing_texts.proofs.RowLaws.{page-listed, page-many, page-other}
 use Rattle.listing_texts.proofs.Lengths.{counted-length}
-use Rattle.listing_pages.specs.Texts.{blankPage}
-use Rattle.listing_pages.proofs.Pieces.{listing-joins, shows-laid, shows-same}
+use Rattle.listing_pages.specs.Texts.{blankPage, pageOf}
+use Rattle.listing_pages.proofs.Pieces.{listing-joins, page-laid}
 use borrow.Author.Needs.{needs}
 use Rattle.listing_pages.proofs.listing_page.Statement.{statement}
 use Rattle.listing_pages.proofs.listing_page.Tie as tie
@@ -28,7 +28,7 @@ refused-page-requires : tie.Need-refused-page-requires
 refused-page-requires c κs = search needs
 
 returns : tie.Need-returns
-returns c = shows-same _ _ _ (page-many _ _ (c .before .if1 .taken)) (c .refused-page .ensures)
+returns c = c .refused-page .ensures ∙ ap pageOf (page-many _ _ (c .before .if1 .taken))
 
 total-requires : tie.Need-total-requires
 total-requires c κs = search needs
@@ -42,7 +42,7 @@ refused-page-requires-2 c κs = search needs
 returns-2 : tie.Need-returns-2
 returns-2 c =
     let s = total-is (c .before .before) (c .before .before .before .if1 .left) in
-    shows-same _ _ _ (page-other _ _ (omega arith) (λ e. c .before .if2 .taken (omega arith))) (c .refused-page2 .ensures)
+    c .refused-page2 .ensures ∙ ap pageOf (page-other _ _ (omega arith) (λ e. c .before .if2 .taken (omega arith)))
 
 slice-aggregate-put-listing : tie.Need-slice-aggregate-put-listing
 slice-aggregate-put-listing c = search needs
@@ -55,8 +55,8 @@ unfolding blankPage
 returns-3 c =
     let a = c .before .before .before .before .before .before .before .args in
     let g = adds (c .before .before) in
-    shows-same _ _ _ (page-listed (a .reads) (a .counts .now) g)
-    (shows-laid _ _ (listing-joins (a .reads) (length (a .counts .now)) (missesBy (a .counts .now))) (counted-length (a .reads) (a .counts .now) (omega arith) g) _ _ (c .before .put-listing .ensures))
+    page-laid _ _ (listing-joins (a .reads) (length (a .counts .now)) (missesBy (a .counts .now))) (counted-length (a .reads) (a .counts .now) (omega arith) g) _ _ (c .before .put-listing .ensures)
+    ∙ ap pageOf (page-listed (a .reads) (a .counts .now) g)
 
 pub listing-page-spec : {M : Type 1} → statement M
 listing-page-spec =

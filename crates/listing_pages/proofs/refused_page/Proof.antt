@@ -2,7 +2,7 @@
 use native.Mathlib.Omega.{arith}
 use Rattle.listing_texts.proofs.Lengths.{refused-length}
 use Rattle.listing_pages.specs.Texts.{blankPage}
-use Rattle.listing_pages.proofs.Pieces.{refusal-joins, shows-laid}
+use Rattle.listing_pages.proofs.Pieces.{refusal-joins, page-laid}
 use borrow.Author.Needs.{needs}
 use Rattle.listing_pages.proofs.refused_page.Statement.{statement}
 use Rattle.listing_pages.proofs.refused_page.Tie as tie
@@ -15,7 +15,7 @@ put-refused-requires c κs = search needs
 
 returns : tie.Need-returns
 unfolding blankPage
-returns c = shows-laid _ _ (refusal-joins (c .before .before .before .args .n)) (refused-length _ (omega arith)) _ _ (c .before .put-refused .ensures)
+returns c = page-laid _ _ (refusal-joins (c .before .before .before .args .n)) (refused-length _ (omega arith)) _ _ (c .before .put-refused .ensures)
 
 pub refused-page-spec : {M : Type 1} → statement M
 refused-page-spec = tie.close (tie.spec slice-aggregate-put-refused put-refused-requires returns)

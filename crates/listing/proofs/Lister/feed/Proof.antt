@@ -5,39 +5,39 @@ use native.Mathlib.Omega.{arith}
 use mathlib.Core.Bool.{true, false}
 use lib.ListN.{length, take}
 use borrow.Author.Tests.{not-true, not-false}
-use Rattle.texts.proofs.Tests.{never}
-use Rattle.listing_texts.specs.Feeding.{State, takePiece, unnumbered}
+use Rattle.listing_texts.specs.Feeding.{State, takePiece}
 use Rattle.listing_turns.specs.Turns.{isStopped}
 use Rattle.listing_turns.proofs.Turns.{stateIn}
-use Rattle.listing.specs.Listers.{soundLister, takesMore}
-use Rattle.listing.proofs.Feeds.{idle-stays, goes-on, Fed, fed-start, fed-on, fed-turn, fed-end}
+use Rattle.listing.specs.Listers.{soundLister, listerOf, takesMore}
+use Rattle.listing.proofs.Feeds.{PieceTaken, fed-start, fed-on, fed-turn, fed-lister}
 use Rattle.listing.proofs.Soundness.{sound-facts, state-sound}
+use Rattle.listing.proofs.Listers.{goes-on, fed-idle, fed-more}
 use borrow.Author.Needs.{needs}
 use Rattle.listing.proofs.Lister.feed.Statement.{statement}
 use Rattle.listing.proofs.Lister.feed.Tie as tie
 
 abbrev Inv-loop : tie.InvT-loop
 Inv-loop bytes phase₀ line₀ held₀ reads₀ extents₀ stack₀ counts₀ at₀ phase line held reads extents stack counts at =
-    Fed bytes (stateIn phase₀ reads₀ extents₀ stack₀ counts₀ (take held₀ line₀)) phase line held reads extents stack counts at
+    PieceTaken bytes (stateIn phase₀ reads₀ extents₀ stack₀ counts₀ (take held₀ line₀)) phase line held reads extents stack counts at
 
 abbrev μ-loop : tie.MeasureT-loop
 μ-loop bytes phase₀ line₀ held₀ reads₀ extents₀ stack₀ counts₀ at₀ phase line held reads extents stack counts at = length bytes - at
 
 -- a lister that the code has found to take more
 takes : (c : tie.Else1 Inv-loop μ-loop) → takesMore (c .before .before .before .args .self) ≡ true
-takes c = sym (c .before .goes .ensures) ∙ not-false (c .before .goes .result) (c .if1 .left)
+takes c = sym (c .before .takes-more .ensures) ∙ not-false (c .before .takes-more .result) (c .if1 .left)
 
 -- it is not refused, and sound
 sound-is : (c : tie.Else1 Inv-loop μ-loop) → (isStopped (c .before .before .before .args .self .phase) ≡ false) × (soundLister (c .before .before .before .args .self) ≡ true)
 sound-is c = goes-on (c .before .before .before .args .self) (takes c)
 
-goes-requires : tie.Need-goes-requires Inv-loop μ-loop
-goes-requires c κs = search needs
+takes-more-requires : tie.Need-takes-more-requires Inv-loop μ-loop
+takes-more-requires c κs = search needs
 
 returns : tie.Need-returns Inv-loop μ-loop
 returns c =
     let a = c .before .before .before .args in
-    (idle-stays (a .self) (a .bytes .now) (sym (c .before .goes .ensures) ∙ not-true (c .before .goes .result) (c .if1 .taken)), λ e. refl)
+    sym (fed-idle (a .self) (a .bytes .now) (sym (c .before .takes-more .ensures) ∙ not-true (c .before .takes-more .result) (c .if1 .taken)))
 
 loop-holds : tie.Need-loop-holds Inv-loop μ-loop
 loop-holds c =
@@ -62,12 +62,17 @@ loop-less c = let t = fed-on _ _ _ _ _ _ _ _ _ _ (c .before .before .before .bef
 loop-again : tie.Need-loop-again Inv-loop μ-loop
 loop-again c = fed-turn _ _ _ _ _ _ _ _ _ _ (c .before .before .before .before .before .before .before .loop .inv) (omega arith) _ _ _ (c .before .before .before .advance .ensures)
 
+stands-requires : tie.Need-stands-requires Inv-loop μ-loop
+stands-requires c κs = let f = c .before .loop .inv in (f .fits, f .tally .few)
+
 returns-2 : tie.Need-returns-2 Inv-loop μ-loop
 returns-2 c =
-    let a = c .before .before .before .before .before .before .before .before .args in
-    let s = sound-is (c .before .before .before .before .before) .1 in
-    let e = fed-end _ _ _ _ _ _ _ _ _ _ (c .before .loop .inv) (omega arith) _ refl ∙ ap (λ (v : State). unnumbered (takePiece v (a .bytes .now))) (sym (state-sound (a .self) s)) in
-    (e, λ z. let q : true ≡ false = sym (takes (c .before .before .before .before .before)) ∙ z in never (cc))
+    let a = c .before .before .before .before .before .before .before .before .before .args in
+    let s = c .before .before .before .before .before .before in
+    c .stands .ensures
+    ∙ fed-lister _ _ _ _ _ _ _ _ _ _ (c .before .before .loop .inv) (omega arith)
+    ∙ ap (λ (v : State). listerOf (takePiece v (a .bytes .now))) (sym (state-sound (a .self) (sound-is s .1)))
+    ∙ sym (fed-more (a .self) (a .bytes .now) (takes s))
 
 pub feed-spec : {M : Type 1} → statement M
 feed-spec =
@@ -75,7 +80,7 @@ feed-spec =
     (tie.spec
     Inv-loop
     μ-loop
-    goes-requires
+    takes-more-requires
     returns
     loop-holds
     slice-aggregate-advance
@@ -83,4 +88,5 @@ feed-spec =
     advance-requires
     loop-less
     loop-again
+    stands-requires
     returns-2)

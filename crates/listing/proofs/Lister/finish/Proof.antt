@@ -1,11 +1,12 @@
 -- `listing::Lister::finish` meets its contract.
-use mathlib.Core.Path.{_≡_, sym, _∙_}
+use mathlib.Core.Path.{_≡_, sym, ap, _∙_}
 use native.Mathlib.Omega.{arith}
 use lib.ListN.{length, take}
 use lib.Seq.{length-take-le}
 use Rattle.reuse.specs.Limits.{maxExtents}
 use Rattle.listing_texts.specs.Feeding.{verdictAt}
 use Rattle.listing_texts.proofs.RowLaws.{page-listed}
+use Rattle.listing_pages.specs.Texts.{pageOf}
 use Rattle.listing_tally.specs.Rows.{Tallied}
 use Rattle.listing.specs.Listers.{stateOf}
 use Rattle.listing_texts.specs.declared.Verdict.the-variants.{Listed}
@@ -54,17 +55,14 @@ returns : tie.Need-returns
 returns c =
     let l = c .before .before .before .before .before .args .self in
     let n = c .before .before .verdict2 .given in
-    (c .refused-page .ensures .0 ∙ sym (prints-refused (stateOf l) (n .0 .0) (sym (c .before .before .before .before .verdict .ensures) ∙ n .1)), c .refused-page .ensures .1)
+    c .refused-page .ensures ∙ ap pageOf (sym (prints-refused (stateOf l) (n .0 .0) (sym (c .before .before .before .before .verdict .ensures) ∙ n .1)))
 
 returns-2 : tie.Need-returns-2
 returns-2 c =
     let s = c .before .before .before in
-    let l = s .before .before .before .args .self in (
-      c .listing-page .ensures .0
-          ∙ sym (page-listed (l .reads) (take (l .extents) (l .counts)) (counted (l .reads) (l .extents) (l .stack) (l .counts) (tally s)))
-          ∙ prints-listed l (listed-sound l (is-listed s)) (is-listed s),
-      c .listing-page .ensures .1,
-    )
+    let l = s .before .before .before .args .self in
+    c .listing-page .ensures
+    ∙ ap pageOf (sym (page-listed (l .reads) (take (l .extents) (l .counts)) (counted (l .reads) (l .extents) (l .stack) (l .counts) (tally s))) ∙ prints-listed l (listed-sound l (is-listed s)) (is-listed s))
 
 pub finish-spec : {M : Type 1} → statement M
 finish-spec =
