@@ -10,7 +10,7 @@ use Rattle.reuse.specs.Lists.{firsts}
 use Rattle.reuse.specs.Summary.{summaryOf}
 use Rattle.summary_calls.specs.declared.Written.{Written}
 use Rattle.summary_calls.specs.declared.Written.the-variants.{Words, Refused}
-use Rattle.texts.specs.Lines.{Read, got, refused}
+use Rattle.texts.specs.Lines.{Read, got, refused as refusedAt}
 use Rattle.texts.specs.Plans.{Plan, reads, depth}
 use Rattle.texts.specs.PlanTexts.{planOf}
 
@@ -46,29 +46,29 @@ pub record Ran : Type 0 where
   pub out : List ℕ
 
 -- the refusal n, with both buffers as they were
-abbrev pub declined : ℕ → List ℕ → List ℕ → Ran
-declined n work out = record { answer = Refused n; work = work; out = out }
+abbrev pub refused : ℕ → List ℕ → List ℕ → Ran
+refused n work out = record { answer = Refused n; work = work; out = out }
 
 -- the log's summary, with the plan's work words 0 afterwards; 6 where the work words or the output are too few
 unfoldable pub carriedOut : Plan → List ℕ → List ℕ → List ℕ → Ran
 carriedOut t log work out =
     cond (leb (workWords t) (length work) && leb (length (summaryOf log)) (length out))
     (record { answer = Words (length (summaryOf log)); work = cleared (workWords t) work; out = fronted (summaryOf log) out })
-    (declined 6 work out)
+    (refused 6 work out)
 
 -- a plan on a log: 3, 8, 9, 6
 unfoldable pub planCall : Plan → List ℕ → List ℕ → List ℕ → Ran
 planCall t log work out =
     cond (eqb (reads t) (length log))
     (cond (leb (length log) maxReads)
-    (cond (leb (length (firsts log)) maxExtents) (carriedOut t log work out) (declined 9 work out))
-    (declined 8 work out))
-    (declined 3 work out)
+    (cond (leb (length (firsts log)) maxExtents) (carriedOut t log work out) (refused 9 work out))
+    (refused 8 work out))
+    (refused 3 work out)
 
 -- by the text's answer: its refusal comes first
 abbrev pub runBy : Read Plan → List ℕ → List ℕ → List ℕ → Ran
 runBy (got t) log work out = planCall t log work out
-runBy (refused line n) log work out = declined n work out
+runBy (refusedAt line n) log work out = refused n work out
 
 -- a plan text on a log
 unfoldable pub runCall : List ℕ → List ℕ → List ℕ → List ℕ → Ran

@@ -7,16 +7,16 @@ use lib.ListN.{length, drop, getD, set, replicate}
 use Rattle.reuse.specs.Lists.{sum}
 
 -- zeros repeated add up to 0
-pub sum-zeros : (k : ℕ) → sum (replicate k 0) ≡ 0
+pub sum-blank-row : (k : ℕ) → sum (replicate k 0) ≡ 0
 unfolding sum
-sum-zeros zero = refl
-sum-zeros (suc k) = let h : sum (replicate k 0) ≡ 0 = sum-zeros k in omega arith
+sum-blank-row zero = refl
+sum-blank-row (suc k) = let h : sum (replicate k 0) ≡ 0 = sum-blank-row k in omega arith
 
 -- each of them is 0
-pub getD-zeros : (k i : ℕ) → getD {A = ℕ} (replicate k 0) i 0 ≡ 0
-getD-zeros zero i = refl
-getD-zeros (suc k) zero = refl
-getD-zeros (suc k) (suc i) = getD-zeros k i
+pub getD-blank-row : (k i : ℕ) → getD {A = ℕ} (replicate k 0) i 0 ≡ 0
+getD-blank-row zero i = refl
+getD-blank-row (suc k) zero = refl
+getD-blank-row (suc k) (suc i) = getD-blank-row k i
 
 -- no word but 0 where the rest adds up to 0
 pub free-at : (l : List ℕ) (n k : ℕ) → sum (drop n l) ≡ 0 → n ≤ k → getD l k 0 ≡ 0

@@ -11,7 +11,7 @@ use borrow.Author.Tests.{leb-true, leb-false}
 use Rattle.reuse.specs.Limits.{maxExtents}
 use Rattle.reuse_rows.specs.Rows.{putAt, padded}
 use Rattle.reuse.proofs.Lists.{by-test}
-use Rattle.reuse.proofs.Sums.{getD-zeros}
+use Rattle.reuse.proofs.Sums.{getD-blank-row}
 
 -- the first i of n extents are laid over the row z
 pub record Laying (e z : List ℕ) (n : ℕ) (row : List ℕ) (i : ℕ) : Type 0 where
@@ -78,7 +78,7 @@ module _ (e : List ℕ) (few : length e ≤ maxExtents) where
       let l : length e ≤ i = leb-true (length e) i q in
       let n : length e + (i - length e) ≡ i = omega arith in
       rw⁻¹ n (getD-append-add e (drop (length e) (replicate maxExtents 0)) (i - length e) 0
-      ∙ getD-drop (length e) (replicate maxExtents 0) (i - length e) 0 ∙ getD-zeros maxExtents (length e + (i - length e)))
+      ∙ getD-drop (length e) (replicate maxExtents 0) (i - length e) 0 ∙ getD-blank-row maxExtents (length e + (i - length e)))
       ∙ sym (List·getD-eq-default e 0 {n = i} l))
       (λ q. List·getD-append e (drop (length e) (replicate maxExtents 0)) 0 i (leb-false (length e) i q)))
 
@@ -97,11 +97,11 @@ padded-cut l = by-test (leb (length l) maxExtents)
     (λ q.
     let k : maxExtents < length l = leb-false (length l) maxExtents q in
     take-append-le maxExtents l (drop (length l) (replicate maxExtents 0)) (omega arith)
-    ∙ sym (append-nil (take maxExtents l)) ∙ ap (λ (z : List ℕ). take maxExtents l ++ z) (sym (no-zeros l (omega arith))))
+    ∙ sym (append-nil (take maxExtents l)) ∙ ap (λ (z : List ℕ). take maxExtents l ++ z) (sym (none-left l (omega arith))))
   where
     -- a longer row leaves no zeros
-    no-zeros : (l : List ℕ) → maxExtents ≤ length l → drop {A = ℕ} (length l) (replicate maxExtents 0) ≡ []
-    no-zeros l k = drop-of-length-le (replicate {A = ℕ} maxExtents 0) {i = length l} (simp length-replicate (omega arith))
+    none-left : (l : List ℕ) → maxExtents ≤ length l → drop {A = ℕ} (length l) (replicate maxExtents 0) ≡ []
+    none-left l k = drop-of-length-le (replicate {A = ℕ} maxExtents 0) {i = length l} (simp length-replicate (omega arith))
 
 -- fewer words than the limit come first
 short : (s : List ℕ) → length s ≤ maxExtents → padded s ≡ s ++ drop (length s) (replicate maxExtents 0)

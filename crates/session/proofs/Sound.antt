@@ -13,7 +13,7 @@ use Rattle.session_marks.specs.Marks.{marked}
 use Rattle.session_soundness.specs.Soundness.{Wide}
 use Rattle.session.specs.declared.Session.{Session}
 use Rattle.session.specs.Sessions.{fresh, marks, extents, stackOf, firstRow, sound}
-use Rattle.session_sums.proofs.Tree.{leaves, full, take-sums, sums-zeros, trued-of, trued-wide}
+use Rattle.session_sums.proofs.Tree.{leaves, full, take-sums, sums-blank-row, trued-of, trued-wide}
 use Rattle.session_marks.proofs.Marks.{row-length, row-count}
 use Rattle.session_marks.proofs.Rows.{Rows, rows-new}
 use Rattle.session_soundness.proofs.Sound as fields
@@ -114,7 +114,7 @@ rows-of s w ok = true-sound s w ok .kept
 fresh-tree : (n : ℕ) → leaves levels ≡ n → 1 ≤ n → replicate (n + n - 1) 0 ≡ sumsOf levels (replicate n 0)
 fresh-tree n e pos =
     let most : n + n - 1 + 1 ≡ leaves levels + leaves levels = omega arith in
-    sym (sums-zeros levels (n + n - 1) most) ∙ ap (λ (k : ℕ). sumsOf levels (replicate k 0)) e
+    sym (sums-blank-row levels (n + n - 1) most) ∙ ap (λ (k : ℕ). sumsOf levels (replicate k 0)) e
 
 -- a new session's rows are sound
 pub fresh-kept : Kept fresh

@@ -11,7 +11,7 @@ use Rattle.reuse.specs.Lru.{cold, at}
 use Rattle.reuse.specs.Limits.{maxReads, maxExtents, slotCount}
 use Rattle.session.specs.declared.Session.{Session}
 use Rattle.session.specs.Sessions.{marks, extents, stackOf, sound}
-use Rattle.session.specs.Reads.{slotOf, stepAt, taken, turnedAway, tooMany, readOf}
+use Rattle.session.specs.Reads.{slotOf, stepAt, taken, refused, tooMany, readOf}
 use Rattle.session_marks.specs.Marks.{foundSlot, Searched}
 use Rattle.session_soundness.specs.Soundness.{Wide, intactRows}
 use Rattle.session_refusals.specs.Refusals.{overfull, refusalOf}
@@ -102,10 +102,10 @@ pub record Accepted (s : Session) (x : ℕ) : Type 0 where
 
 module _ (s : Session) (w : Wide (s .first) (s .hist) (s .slots) (s .sums)) (x : ℕ) where
   -- a read that is refused
-  pub refused-way : (n : ℕ) → n ≡ refusal s x → (n ≡ 0 → ⊥) → turnedAway s n ≡ readOf s x
+  pub refused-way : (n : ℕ) → n ≡ refusal s x → (n ≡ 0 → ⊥) → refused s n ≡ readOf s x
   unfolding readOf refusalOf
   refused-way n e z =
-      ap (turnedAway s) e ∙
+      ap (refused s) e ∙
       by-test (sound s)
       (λ ok. by-test (eqb (s .reads) maxReads)
       (λ r. simp (tested s w, ok, r))

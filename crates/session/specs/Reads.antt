@@ -69,8 +69,12 @@ unfoldable pub taken : Session → ℕ → Step
 taken s x = stepAt s x (depth (stackOf s) x)
 
 -- the refusal n, with the session as it was
+abbrev pub refused : Session → ℕ → Step
+refused s n = record { session = s; answer = Refused n }
+
+-- `refused`, by the name that session_words has for it
 abbrev pub turnedAway : Session → ℕ → Step
-turnedAway s n = record { session = s; answer = Refused n }
+turnedAway = refused
 
 -- x would be one extent too many
 unfoldable pub tooMany : Session → ℕ → Bool
@@ -81,9 +85,9 @@ unfoldable pub readOf : Session → ℕ → Step
 readOf s x =
     cond (sound s)
     (cond (eqb (s .reads) maxReads)
-    (turnedAway s 8)
-    (cond (tooMany s x) (turnedAway s 9) (taken (roomed s) x)))
-    (turnedAway s 7)
+    (refused s 8)
+    (cond (tooMany s x) (refused s 9) (taken (roomed s) x)))
+    (refused s 7)
 
 -- the sums that an answer has read: a cold read and a refusal read none
 abbrev pub sumsRead : Answer → ℕ

@@ -7,7 +7,7 @@ ghost use Rattle.reuse.specs.Lru.{cold, at};
 ghost use Rattle.reuse.specs.Limits.{slotCount, levels};
 ghost use Rattle.session_sums.specs.Sums.{sumsOf, marksIn, Trued};
 ghost use Rattle.session.specs.Sessions.{fresh, marks, sound};
-ghost use Rattle.session.specs.Reads.{gathered, stepAt, turnedAway, readOf};
+ghost use Rattle.session.specs.Reads.{gathered, stepAt, refused, readOf};
 ghost use Rattle.session.specs.Steps.{Gatherable, Movable, Enterable};
 use reuse::MAX_EXTENTS;
 use reuse::SLOTS;
@@ -142,7 +142,7 @@ impl Session {
 
     // The session unchanged, beside the refusal's number.
     fn refused(self, n: u32) -> Step
-        ensures { λ r. ⌜ r ≡ turnedAway self n ⌝ }
+        ensures { λ r. ⌜ r ≡ refused self n ⌝ }
     {
         Step {
             session: self,

@@ -12,7 +12,7 @@ use Rattle.reuse.specs.Lists.{mem, remove, distinct, sum}
 use Rattle.session_marks.specs.Marks.{marked, slotFrom}
 use Rattle.reuse.proofs.Lists.{by-test, eqb-same, mem-append, mem-remove}
 use Rattle.reuse.proofs.Distinct.{distinct-snoc, distinct-remove, length-remove}
-use Rattle.reuse.proofs.Sums.{sum-zeros, free-more, free-step, sum-more}
+use Rattle.reuse.proofs.Sums.{sum-blank-row, free-more, free-step, sum-more}
 use Rattle.session_marks.proofs.Marks.{Row, row-count, put-row, put-marked, out-row, out-marked, out-below, gather-row, gather-marked}
 
 -- what soundness says of the marks, the slots, F, H and L
@@ -38,16 +38,16 @@ rows-new N M = record {
   row = gather-row [] N;
   wide = length-replicate N 0;
   low = omega arith;
-  free = sum-zeros N;
+  free = sum-blank-row N;
   apart = rw (gather-marked [] N);
-  few = omega (arith, sum-zeros N);
+  few = omega (arith, sum-blank-row N);
   first-wide = length-replicate M 0;
-  first-apart = rw (sum-zeros N);
-  listed = λ y. rw (sum-zeros N, gather-marked [] N);
-  first-rest = rw (sum-zeros N) (sum-zeros M);
+  first-apart = rw (sum-blank-row N);
+  listed = λ y. rw (sum-blank-row N, gather-marked [] N);
+  first-rest = rw (sum-blank-row N) (sum-blank-row M);
   hist-wide = length-replicate M 0;
-  hist-rest = rw (sum-zeros N) (sum-zeros M);
-  total = omega (arith, sum-zeros N, sum-zeros M);
+  hist-rest = rw (sum-blank-row N) (sum-blank-row M);
+  total = omega (arith, sum-blank-row N, sum-blank-row M);
 }
 
 module _ (N M : ℕ) (ms xs first hist : List ℕ) (next reads : ℕ) (h : Rows N M ms xs first hist next reads) where
@@ -78,7 +78,7 @@ module _ (N M : ℕ) (ms xs first hist : List ℕ) (next reads : ℕ) (h : Rows 
     row = gathered-row;
     wide = simp (length-append, length-replicate) (omega arith);
     low = w;
-    free = ap sum (drop-at (replicate (sum ms) 1) (replicate (N - sum ms) 0) (sum ms) (length-replicate (sum ms) 1)) ∙ sum-zeros (N - sum ms);
+    free = ap sum (drop-at (replicate (sum ms) 1) (replicate (N - sum ms) 0) (sum ms) (length-replicate (sum ms) 1)) ∙ sum-blank-row (N - sum ms);
     apart = rw gathered-marked (h .apart);
     few = rw gathered-count (h .few);
     first-wide = h .first-wide;

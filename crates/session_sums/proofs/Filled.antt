@@ -25,10 +25,10 @@ filled-more N l x h =
     more = omega arith
 
 -- zeros, cut
-take-zeros : (k n : ℕ) → k ≤ n → take {A = ℕ} k (replicate n 0) ≡ replicate k 0
-take-zeros zero n h = refl
-take-zeros (suc k) zero h = absurd (omega arith)
-take-zeros (suc k) (suc n) h = ap {B = List ℕ} (λ r. 0 ∷ r) (take-zeros k n (omega arith))
+take-blank-row : (k n : ℕ) → k ≤ n → take {A = ℕ} k (replicate n 0) ≡ replicate k 0
+take-blank-row zero n h = refl
+take-blank-row (suc k) zero h = absurd (omega arith)
+take-blank-row (suc k) (suc n) h = ap {B = List ℕ} (λ r. 0 ∷ r) (take-blank-row k n (omega arith))
 
 -- a filled row, cut
 pub take-filled : (M N : ℕ) (l : List ℕ) → length l ≤ M → M ≤ N → take M (filled N l) ≡ filled M l
@@ -36,7 +36,7 @@ unfolding filled
 take-filled M N l h g =
     ap (λ (k : ℕ). take k (l ++ replicate (N - length l) 0)) at
     ∙ take-append-add l (replicate (N - length l) 0) (M - length l)
-    ∙ ap (λ (r : List ℕ). l ++ r) (take-zeros (M - length l) (N - length l) (omega arith))
+    ∙ ap (λ (r : List ℕ). l ++ r) (take-blank-row (M - length l) (N - length l) (omega arith))
   where
     at : M ≡ length l + (M - length l)
     at = omega arith

@@ -75,21 +75,21 @@ length-sums (suc d) l e =
     simp length-append (omega arith)
 
 -- over zeros it has zeros
-pairs-zeros : (n : ℕ) → pairs (replicate (n + n) 0) ≡ replicate n 0
+pairs-blank-row : (n : ℕ) → pairs (replicate (n + n) 0) ≡ replicate n 0
 unfolding pairs
-pairs-zeros zero = refl
-pairs-zeros (suc n) = ap (λ (k : ℕ). pairs (replicate k 0)) two ∙ ap {B = List ℕ} (λ r. 0 ∷ r) (pairs-zeros n)
+pairs-blank-row zero = refl
+pairs-blank-row (suc n) = ap (λ (k : ℕ). pairs (replicate k 0)) two ∙ ap {B = List ℕ} (λ r. 0 ∷ r) (pairs-blank-row n)
   where
     two : suc n + suc n ≡ suc (suc (n + n))
     two = omega arith
 
 -- over leaves that are all 0 so are the sums
-pub sums-zeros : (d n : ℕ) → n + 1 ≡ leaves d + leaves d → sumsOf d (replicate (leaves d) 0) ≡ replicate n 0
+pub sums-blank-row : (d n : ℕ) → n + 1 ≡ leaves d + leaves d → sumsOf d (replicate (leaves d) 0) ≡ replicate n 0
 unfolding sumsOf leaves
-sums-zeros zero n e = let one : 1 ≡ n = omega arith in ap (λ (k : ℕ). replicate k 0) one
-sums-zeros (suc d) n e =
-    ap (λ (l : List ℕ). replicate (leaves d + leaves d) 0 ++ sumsOf d l) (pairs-zeros (leaves d))
-    ∙ ap (λ (l : List ℕ). replicate (leaves d + leaves d) 0 ++ l) (sums-zeros d (n - (leaves d + leaves d)) (omega arith))
+sums-blank-row zero n e = let one : 1 ≡ n = omega arith in ap (λ (k : ℕ). replicate k 0) one
+sums-blank-row (suc d) n e =
+    ap (λ (l : List ℕ). replicate (leaves d + leaves d) 0 ++ sumsOf d l) (pairs-blank-row (leaves d))
+    ∙ ap (λ (l : List ℕ). replicate (leaves d + leaves d) 0 ++ l) (sums-blank-row d (n - (leaves d + leaves d)) (omega arith))
     ∙ replicate-append-replicate (leaves d + leaves d) (n - (leaves d + leaves d)) 0
     ∙ ap (λ (k : ℕ). replicate k 0) whole
   where

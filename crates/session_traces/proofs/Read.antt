@@ -15,7 +15,7 @@ use Rattle.session.specs.declared.Step.{Step}
 use Rattle.session.specs.declared.Answer.{Answer}
 use Rattle.session.specs.declared.Answer.the-variants.{Distance, Refused}
 use Rattle.session.specs.Sessions.{marks, extents, stackOf, sound}
-use Rattle.session.specs.Reads.{roomed, slotOf, stepAt, taken, turnedAway, tooMany, readOf}
+use Rattle.session.specs.Reads.{roomed, slotOf, stepAt, taken, refused, tooMany, readOf}
 use Rattle.session_soundness.specs.Soundness.{Wide}
 use Rattle.session_traces.specs.Walks.{onTheWay, totalAt, Walks}
 use Rattle.reuse.proofs.Lists.{by-test, both}
@@ -100,7 +100,7 @@ module _ (s : Session) (t : List ℕ) (g : Stands s t) (x : ℕ) where
 
   -- what a read answers, by the trace alone
   pub read-is : readOf s x
-      ≡ cond (eqb (length t) maxReads) (turnedAway s 8) (cond (over t x) (turnedAway s 9) (stepAt (roomed s) x (depth (stack t) x)))
+      ≡ cond (eqb (length t) maxReads) (refused s 8) (cond (over t x) (refused s 9) (stepAt (roomed s) x (depth (stack t) x)))
   unfolding readOf tooMany
   read-is =
       rw (
@@ -112,11 +112,11 @@ module _ (s : Session) (t : List ℕ) (g : Stands s t) (x : ℕ) where
       )
 
   -- a read too many
-  pub read-full : eqb (length t) maxReads ≡ true → readOf s x ≡ turnedAway s 8
+  pub read-full : eqb (length t) maxReads ≡ true → readOf s x ≡ refused s 8
   read-full e = read-is ∙ rw e
 
   -- an extent too many
-  pub read-many : eqb (length t) maxReads ≡ false → over t x ≡ true → readOf s x ≡ turnedAway s 9
+  pub read-many : eqb (length t) maxReads ≡ false → over t x ≡ true → readOf s x ≡ refused s 9
   read-many short e = read-is ∙ rw (short, e)
 
   -- a read that is accepted
@@ -150,8 +150,8 @@ answered e a = ap (λ (p : Step). p .answer) (sym e) ∙ a
 
 -- what a read makes of a session that has read t: 8, or else 9, or else t one read on
 pub record Refines (s : Session) (t : List ℕ) (x : ℕ) : Type 0 where
-  pub full : length t ≡ maxReads → readOf s x ≡ turnedAway s 8
-  pub many : (length t ≡ maxReads → ⊥) → mem x t ≡ false → length (firsts t) ≡ maxExtents → readOf s x ≡ turnedAway s 9
+  pub full : length t ≡ maxReads → readOf s x ≡ refused s 8
+  pub many : (length t ≡ maxReads → ⊥) → mem x t ≡ false → length (firsts t) ≡ maxExtents → readOf s x ≡ refused s 9
   pub taken : (length t ≡ maxReads → ⊥) → (mem x t ≡ false → length (firsts t) ≡ maxExtents → ⊥)
       → (readOf s x ≡ stepAt (roomed s) x (depth (stack t) x)) × Stands (readOf s x .session) (t ++ (x ∷ []))
   pub only-full : readOf s x .answer ≡ Refused 8 → length t ≡ maxReads

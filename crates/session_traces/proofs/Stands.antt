@@ -23,7 +23,7 @@ use Rattle.reuse.proofs.Stack.{stack-snoc, mem-stack}
 use Rattle.reuse.proofs.Depth.{depth-present, depth-absent, length-before}
 use Rattle.reuse.proofs.Words.{length-histogram}
 use Rattle.reuse.proofs.Join.{count-range, count-more, histogram-at}
-use Rattle.reuse.proofs.Sums.{free-at, getD-zeros}
+use Rattle.reuse.proofs.Sums.{free-at, getD-blank-row}
 use Rattle.session.proofs.Sound.{Kept, true-sound, kept-sound, kept-wide, kept-few, length-first, length-stack, fresh-kept}
 use Rattle.session.proofs.Taken.{kept-roomed, entered-row, kept-entered, entered-stack, kept-moved, moved-stack, moved-first}
 
@@ -99,7 +99,7 @@ fresh-stands = known-stands fresh [] (record {
   counted = refl;
   first-known = refl;
   stacked = refl;
-  hist-at = λ i. getD-zeros maxExtents i;
+  hist-at = λ i. getD-blank-row maxExtents i;
 }) (omega arith)
 
 -- room for one more keeps what is known

@@ -3,7 +3,7 @@ use mathlib.Core.Path.{refl}
 use Prim.Native.Nat.{ℕ}
 use lib.ListN.{length-replicate}
 use Rattle.reuse.specs.Limits.{maxExtents}
-use Rattle.reuse.proofs.Sums.{getD-zeros}
+use Rattle.reuse.proofs.Sums.{getD-blank-row}
 use Rattle.reuse.proofs.Traces.{extents-over}
 use Rattle.summary_calls.proofs.Calls.{trace-refused-reads, trace-refused-extents}
 use Rattle.summary_trace.proofs.Taking.{taken-call}
@@ -32,7 +32,7 @@ take-requires c κs = record {
   stack-wide = length-replicate {A = ℕ} maxExtents 0;
   first-wide = length-replicate {A = ℕ} maxExtents 0;
   hist-wide = length-replicate {A = ℕ} maxExtents 0;
-  none = getD-zeros maxExtents;
+  none = getD-blank-row maxExtents;
 }
 
 returns-2 : tie.Need-returns-2
