@@ -20,7 +20,8 @@ use Rattle.listing_texts.proofs.Lengths.{counted-length, refused-length}
 use Rattle.listing_pages.specs.Texts.{pageOf}
 use Rattle.listing_pages.specs.declared.Page.{Page}
 use Rattle.listing_pages.proofs.Pieces.{page-front, page-len}
-use Rattle.listing.specs.Listers.{refusesText, soundLister, stateOf}
+use Rattle.listing_soundness.specs.Soundness.{refusesText}
+use Rattle.listing.specs.Listers.{soundLister, stateOf}
 use Rattle.listing_texts.specs.Pages.{pageBytes, Counted}
 use Rattle.listing_texts.specs.Tallies.{Tally, missesBy}
 use Rattle.listing.specs.declared.Lister.{Lister}

@@ -27,7 +27,7 @@ use Rattle.listing_tally.specs.Standings.{lineTaken}
 use Rattle.listing_tally.specs.declared.Phase.{Phase}
 use Rattle.listing_tally.specs.declared.Phase.the-variants.{Empty, Inside, Whole, Stopped}
 use Rattle.listing_tally.proofs.Phases.{line-law}
-use Rattle.listing.specs.Listers.{refusesText}
+use Rattle.listing_soundness.specs.Soundness.{refusesText}
 
 -- a tally within the limits: no extent twice, each read counted or cold
 pub record KeptTally (t : Tally) : Type 0 where

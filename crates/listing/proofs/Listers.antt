@@ -25,11 +25,13 @@ use Rattle.listing_tally.specs.declared.Phase.{Phase}
 use Rattle.listing_tally.specs.declared.Phase.the-variants.{Empty, Inside, Whole, Stopped}
 use Rattle.listing_turns.specs.Turns.{isStopped}
 use Rattle.listing_turns.proofs.Turns.{stateIn}
-use Rattle.listing.specs.Listers.{holdsLine, holdsTally, holdsPhase, refusesText, blankLine, soundLister, stateOf, listerWith, listerOf, emptyLister, takesMore, fedOf}
+use Rattle.listing_soundness.specs.Soundness.{holdsLine, holdsTally, holdsPhase, refusesText}
+use Rattle.listing_soundness.proofs.Soundness.{line-facts}
+use Rattle.listing.specs.Listers.{blankLine, soundLister, stateOf, listerWith, listerOf, emptyLister, takesMore, fedOf}
 use Rattle.listing.specs.declared.Lister.{Lister}
 use Rattle.listing.proofs.Rows.{line-front, line-rest, words-rest}
 use Rattle.listing.proofs.Kept.{KeptTally, Kept, rows-kept, kept-rows, kept-tally, none-kept, none-ends, piece-kept}
-use Rattle.listing.proofs.Soundness.{line-facts, sound-parts, sound-facts, state-sound, state-unsound}
+use Rattle.listing.proofs.Soundness.{sound-parts, sound-facts, state-sound, state-unsound}
 
 -- a lister whose rows have their lengths
 pub record Wide (l : Lister) : Type 0 where

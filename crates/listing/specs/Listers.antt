@@ -1,13 +1,10 @@
 -- Listers: when the words of one stand for a text taken so far, what they stand for, and the lister of each text.
-use Prim.Native.Nat.{ℕ, _+_}
+use Prim.Native.Nat.{ℕ}
 use mathlib.Core.List.{List, []}
-use mathlib.Core.Bool.{Bool, true, cond, not, _&&_, _||_}
-use lib.Dec.{eqb, leb}
-use lib.ListN.{length, take, drop, replicate}
-use Rattle.reuse.specs.Limits.{maxReads, maxExtents}
-use Rattle.reuse.specs.Lists.{distinct, sum}
-use Rattle.reuse_rows.specs.Rows.{blank, putAt, padded}
-use Rattle.texts.specs.Lines.{at, stopped, lineCount}
+use mathlib.Core.Bool.{Bool, cond, not, _&&_}
+use lib.ListN.{length, take, replicate}
+use Rattle.reuse_rows.specs.Rows.{putAt, padded}
+use Rattle.texts.specs.Lines.{at, stopped}
 use Rattle.texts.specs.Logs.{longestLine}
 use Rattle.listing_texts.specs.Tallies.{Tally, noReads}
 use Rattle.listing_texts.specs.Feeding.{empty, inside, whole, State, takePiece, stateBy}
@@ -15,32 +12,8 @@ use Rattle.listing_tally.specs.Rows.{tallyIn, takenBy}
 use Rattle.listing_tally.specs.declared.Phase.{Phase}
 use Rattle.listing_tally.specs.declared.Phase.the-variants.{Empty, Inside, Whole, Stopped}
 use Rattle.listing_turns.specs.Turns.{isStopped}
+use Rattle.listing_soundness.specs.Soundness.{holdsLine, holdsTally, holdsPhase}
 use Rattle.listing.specs.declared.Lister.{Lister}
-
--- the bytes held of a line that has not ended: no more than a line has, none of them 10, and 0 after them
-unfoldable pub holdsLine : List ℕ → ℕ → Bool
-holdsLine line held = leb held longestLine && eqb (lineCount (take held line)) 0 && blank (drop held line)
-
--- the tally in two rows: within the limits, no extent twice, each read counted or cold, and 0 after it
-unfoldable pub holdsTally : ℕ → ℕ → List ℕ → List ℕ → Bool
-holdsTally reads extents stack counts =
-    leb extents maxExtents
-    && leb reads maxReads
-    && distinct (take extents stack)
-    && eqb (extents + sum (take extents counts)) reads
-    && blank (drop extents stack)
-    && blank (drop extents counts)
-
--- the numbers that a log text is refused with
-unfoldable pub refusesText : ℕ → Bool
-refusesText n = eqb n 1 || eqb n 2 || eqb n 8 || eqb n 9
-
--- how far the text is: before its first line it has no reads; refused, it keeps nothing but its number
-unfoldable pub holdsPhase : Phase → ℕ → ℕ → Bool
-holdsPhase Empty held reads = eqb reads 0
-holdsPhase Inside held reads = true
-holdsPhase Whole held reads = true
-holdsPhase (Stopped n) held reads = eqb held 0 && eqb reads 0 && refusesText n
 
 -- a lister that stands for a text taken so far
 unfoldable pub soundLister : Lister → Bool

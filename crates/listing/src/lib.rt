@@ -7,7 +7,7 @@ ghost use Rattle.texts.specs.Logs.{longestLine};
 ghost use Rattle.listing_texts.specs.Feeding.{stateBy, printedAt, verdictAt};
 ghost use Rattle.listing_tally.specs.Rows.{tallyIn, takenBy};
 ghost use Rattle.listing_pages.specs.Texts.{pageOf};
-ghost use Rattle.listing.specs.Listers.{holdsLine, holdsTally, refusesText, holdsPhase, soundLister, stateOf, listerWith, listerOf, emptyLister, takesMore, fedOf};
+ghost use Rattle.listing.specs.Listers.{soundLister, stateOf, listerWith, listerOf, emptyLister, takesMore, fedOf};
 pub use listing_pages::PAGE_BYTES;
 pub use listing_pages::Page;
 pub use listing_tally::Phase;
@@ -22,42 +22,6 @@ pub struct Lister {
     pub extents: usize,
     pub stack: [u32; reuse::MAX_EXTENTS],
     pub counts: [u32; reuse::MAX_EXTENTS],
-}
-
-// Whether a log text is refused with this number.
-fn refuses_text(n: u32) -> bool
-    ensures { λ r. ⌜ r ≡ refusesText n ⌝ }
-{
-    if n == 1 {
-        return true;
-    }
-    if n == 2 {
-        return true;
-    }
-    if n == 8 {
-        return true;
-    }
-    n == 9
-}
-
-// Whether so many bytes held and so many reads go with how far the text is.
-fn holds_phase(phase: Phase, held: usize, reads: u32) -> bool
-    ensures { λ r. ⌜ r ≡ holdsPhase phase held reads ⌝ }
-{
-    match phase {
-        Phase::Empty => reads == 0,
-        Phase::Inside => true,
-        Phase::Whole => true,
-        Phase::Stopped(n) => {
-            if held != 0 {
-                return false;
-            }
-            if reads != 0 {
-                return false;
-            }
-            refuses_text(n)
-        }
-    }
 }
 
 // The lister that holds the first bytes of a line, this phase and the tally in the first words of two rows, and 0 after them.
@@ -125,59 +89,21 @@ impl Lister {
         }
     }
 
-    // Whether what is held of a line begins one, and 0 stands after it.
-    fn holds_line(self) -> bool
-        ensures { λ r. ⌜ r ≡ holdsLine (self .line) (self .held) ⌝ }
-    {
-        let held = self.held;
-        if listing_tally::LONGEST < held {
-            return false;
-        }
-        let line = self.line;
-        if texts_pieces::line_length(&line, 0, held) != held {
-            return false;
-        }
-        let left = listing_tally::LONGEST - held;
-        texts_pieces::run_of(&line, held, 0, left) == left
-    }
-
-    // Whether the rows hold a tally, and 0 after it.
-    fn holds_tally(self) -> bool
-        ensures { λ r. ⌜ r ≡ holdsTally (self .reads) (self .extents) (self .stack) (self .counts) ⌝ }
-    {
-        let v = self.extents;
-        if reuse::MAX_EXTENTS < v {
-            return false;
-        }
-        if reuse::MAX_READS < self.reads {
-            return false;
-        }
-        let stack = self.stack;
-        if !reuse_tables::all_distinct(&stack[..v]) {
-            return false;
-        }
-        let counts = self.counts;
-        if v as u64 + reuse_rows::total(&counts[..v]) != self.reads as u64 {
-            return false;
-        }
-        if !reuse_rows::all_zero(&stack[v..]) {
-            return false;
-        }
-        reuse_rows::all_zero(&counts[v..])
-    }
-
     // Whether the lister stands for a text taken so far.
     pub fn sound(self) -> bool
         ensures { λ r. ⌜ r ≡ soundLister self ⌝ }
     {
-        if !self.holds_line() {
+        let line = self.line;
+        if !listing_soundness::holds_line(line, self.held) {
             return false;
         }
-        if !self.holds_tally() {
+        let stack = self.stack;
+        let counts = self.counts;
+        if !listing_soundness::holds_tally(self.reads, self.extents, stack, counts) {
             return false;
         }
         let phase = self.phase;
-        holds_phase(phase, self.held, self.reads)
+        listing_soundness::holds_phase(phase, self.held, self.reads)
     }
 
     // Whether the lister is sound and its text not refused.

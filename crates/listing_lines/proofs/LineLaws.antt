@@ -15,7 +15,7 @@ use Rattle.reuse.proofs.Lists.{by-test}
 use Rattle.texts.proofs.Positions.{gone, here, word-fits}
 use Rattle.listing_lines.specs.Forms.{rowFound, headFound}
 use Rattle.listing_lines.specs.declared.Row.the-variants.{Read, Bad}
-use Rattle.listing_lines.specs.declared.Head.the-variants.{Open, Closed, Bad as BadHead}
+use Rattle.listing_lines.specs.declared.Head.the-variants.{Trace, Bad as BadHead}
 
 module _ (line : List ℕ) where
   -- the first line does not begin with its word
@@ -34,7 +34,7 @@ module _ (line : List ℕ) where
     head-long = word-fits line 0 traceWord (omega arith) (sym t)
 
     -- nothing stands after it
-    pub head-open : length line ≡ 6 → Open ≡ headFound (after traceWord line)
+    pub head-open : length line ≡ 6 → Trace false ≡ headFound (after traceWord line)
     head-open e = sym (ap headFound (head-rest ∙ ap some (gone line 6 (omega arith))))
 
     -- more than a byte does
@@ -52,7 +52,7 @@ module _ (line : List ℕ) where
     head-other e f = sym (ap headFound (head-one e) ∙ rw (ne-eqb (getD line 6 0) 41 f))
 
     -- a bracket
-    pub head-closed : length line ≡ 7 → getD line 6 0 ≡ 41 → Closed ≡ headFound (after traceWord line)
+    pub head-closed : length line ≡ 7 → getD line 6 0 ≡ 41 → Trace true ≡ headFound (after traceWord line)
     head-closed e f = sym (ap headFound (head-one e) ∙ rw (eq-eqb (getD line 6 0) 41 f))
 
 -- brackets and nothing else are counted

@@ -11,10 +11,9 @@ pub enum Row {
     Bad,
 }
 
-// The first line: `(trace`, `(trace)`, or another.
+// The first line: `(trace`, and whether the text ends with it; or another line.
 pub enum Head {
-    Open,
-    Closed,
+    Trace(bool),
     Bad,
 }
 
@@ -49,7 +48,7 @@ pub fn head_of(line: &[u8]) -> Head
         return Head::Bad;
     }
     if line.len() == 6 {
-        return Head::Open;
+        return Head::Trace(false);
     }
     if line.len() != 7 {
         return Head::Bad;
@@ -57,5 +56,5 @@ pub fn head_of(line: &[u8]) -> Head
     if line[6] != 41 {
         return Head::Bad;
     }
-    Head::Closed
+    Head::Trace(true)
 }

@@ -25,7 +25,7 @@ use Rattle.listing_lines.specs.declared.Row.{Row}
 use Rattle.listing_tally.specs.declared.Phase.{Phase}
 use Rattle.listing_tally.specs.declared.Phase.the-variants.{Empty, Inside, Whole, Stopped}
 use Rattle.listing_tally.specs.declared.Progress.{Progress}
-use Rattle.listing_tally.specs.Standings.{Standing, standsAt, stop, goOn, headTaken, readAt, readTaken, rowTaken, lineTaken, endTaken}
+use Rattle.listing_tally.specs.Standings.{Standing, standsAt, refused, goOn, headTaken, readAt, readTaken, rowTaken, lineTaken, endTaken}
 
 module _ (reads extents : ℕ) (stack counts : List ℕ) where
   -- a place in the stack, and the stack within its row
@@ -51,17 +51,17 @@ module _ (reads extents : ℕ) (stack counts : List ℕ) where
 
   module _ (x : ℕ) (ends : Bool) (r : Progress) where
     -- an extent too large
-    pub read-large : maxExtent < x → r ≡ stop 2 reads extents → standsAt r stack counts ≡ readTaken reads extents stack counts x ends
+    pub read-large : maxExtent < x → r ≡ refused 2 reads extents → standsAt r stack counts ≡ readTaken reads extents stack counts x ends
     unfolding readTaken
     read-large h e = rw (e, lt-ltb maxExtent x h)
 
     -- as many reads as the limit
-    pub read-many : x ≤ maxExtent → maxReads ≤ reads → r ≡ stop 8 reads extents → standsAt r stack counts ≡ readTaken reads extents stack counts x ends
+    pub read-many : x ≤ maxExtent → maxReads ≤ reads → r ≡ refused 8 reads extents → standsAt r stack counts ≡ readTaken reads extents stack counts x ends
     unfolding readTaken
     read-many small h e = rw (e, le-ltb maxExtent x small, le-leb maxReads reads h)
 
     -- fewer counts than words of the stack
-    pub read-short : x ≤ maxExtent → reads < maxReads → length counts < length stack → r ≡ stop 7 reads extents
+    pub read-short : x ≤ maxExtent → reads < maxReads → length counts < length stack → r ≡ refused 7 reads extents
         → standsAt r stack counts ≡ readTaken reads extents stack counts x ends
     unfolding readTaken
     read-short small room h e = rw (e, le-ltb maxExtent x small, lt-leb maxReads reads room, lt-ltb (length counts) (length stack) h)
@@ -94,12 +94,12 @@ module _ (reads extents : ℕ) (stack counts : List ℕ) where
           ∙ read-at (Depth d) e
 
       -- a new extent, and no room for it
-      pub read-full : place ≡ Full → r ≡ stop 9 reads extents → standsAt r left counts ≡ readTaken reads extents stack counts x ends
-      read-full e q = left-at Full e (stop 9 reads extents) q counts ∙ read-at Full e
+      pub read-full : place ≡ Full → r ≡ refused 9 reads extents → standsAt r left counts ≡ readTaken reads extents stack counts x ends
+      read-full e q = left-at Full e (refused 9 reads extents) q counts ∙ read-at Full e
 
       -- more extents than words of the stack
-      pub read-bad : place ≡ BadCount → r ≡ stop 7 reads extents → standsAt r left counts ≡ readTaken reads extents stack counts x ends
-      read-bad e q = left-at BadCount e (stop 7 reads extents) q counts ∙ read-at BadCount e
+      pub read-bad : place ≡ BadCount → r ≡ refused 7 reads extents → standsAt r left counts ≡ readTaken reads extents stack counts x ends
+      read-bad e q = left-at BadCount e (refused 7 reads extents) q counts ∙ read-at BadCount e
 
   module _ (phase : Phase) (line : List ℕ) where
     -- the first line
@@ -115,12 +115,12 @@ module _ (reads extents : ℕ) (stack counts : List ℕ) where
     line-row e v f s q = q ∙ rw (e, f)
 
     -- a line after the end
-    pub line-end : phase ≡ Whole → (r : Progress) → r ≡ stop 1 reads extents → standsAt r stack counts ≡ lineTaken reads extents stack counts phase line
+    pub line-end : phase ≡ Whole → (r : Progress) → r ≡ refused 1 reads extents → standsAt r stack counts ≡ lineTaken reads extents stack counts phase line
     unfolding lineTaken
     line-end e r q = rw (e, q)
 
     -- a line after a refusal
-    pub line-stop : (n : ℕ) → phase ≡ Stopped n → (r : Progress) → r ≡ stop n reads extents
+    pub line-stop : (n : ℕ) → phase ≡ Stopped n → (r : Progress) → r ≡ refused n reads extents
         → standsAt r stack counts ≡ lineTaken reads extents stack counts phase line
     unfolding lineTaken
     line-stop n e r q = rw (e, q)
@@ -128,7 +128,7 @@ module _ (reads extents : ℕ) (stack counts : List ℕ) where
   -- a line that ends
   module _ (phase : Phase) (front : List ℕ) (held : ℕ) (rest : List ℕ) where
     -- it is too long
-    pub end-long : longestLine < held + length rest → (r : Progress) → r ≡ stop 1 reads extents
+    pub end-long : longestLine < held + length rest → (r : Progress) → r ≡ refused 1 reads extents
         → standsAt r stack counts ≡ endTaken reads extents stack counts phase front held rest
     unfolding endTaken
     end-long h r e = rw (e, lt-leb (held + length rest) longestLine h)

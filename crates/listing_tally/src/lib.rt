@@ -6,7 +6,7 @@ ghost use mathlib.Core.Path.{_≡_};
 ghost use Rattle.texts.specs.Words.{after};
 ghost use Rattle.texts.specs.Logs.{traceWord};
 ghost use Rattle.listing_lines.specs.Forms.{headFound};
-ghost use Rattle.listing_tally.specs.Standings.{standsAt, stop, goOn, headTaken, readTaken, lineTaken, endTaken};
+ghost use Rattle.listing_tally.specs.Standings.{standsAt, refused, goOn, headTaken, readTaken, lineTaken, endTaken};
 
 // The bytes of the longest line.
 pub const LONGEST: usize = 19;
@@ -31,7 +31,7 @@ pub struct Progress {
 
 // A text refused with this number, its tally as it is.
 fn refused(n: u32, reads: u32, extents: usize) -> Progress
-    ensures { λ r. ⌜ r ≡ stop n reads extents ⌝ }
+    ensures { λ r. ⌜ r ≡ refused n reads extents ⌝ }
 {
     Progress {
         phase: Phase::Stopped(n),
@@ -62,12 +62,10 @@ fn gone_on(ends: bool, reads: u32, extents: usize) -> Progress
 fn take_head(line: &[u8], reads: u32, extents: usize) -> Progress
     ensures { λ r. ⌜ r ≡ headTaken reads extents (headFound (after traceWord (now (line .entry)))) ⌝ }
 {
-    let head = listing_lines::head_of(line);
-    match head {
-        Head::Open => gone_on(false, 0, 0),
-        Head::Closed => gone_on(true, 0, 0),
-        Head::Bad => refused(1, reads, extents),
-    }
+    let Head::Trace(ends) = listing_lines::head_of(line) else {
+        return refused(1, reads, extents);
+    };
+    gone_on(ends, 0, 0)
 }
 
 // A read is taken, the last one or not.

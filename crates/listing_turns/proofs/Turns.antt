@@ -21,7 +21,7 @@ use Rattle.listing_texts.specs.Tallies.{Tally}
 use Rattle.listing_texts.specs.Feeding.{Taken, empty, inside, whole, State, takePiece, stateBy, unnumbered}
 use Rattle.listing_texts.proofs.Unnumbered.{take-none, stay, kept, ended, too-long}
 use Rattle.listing_tally.specs.Rows.{Tallied, tallyIn, takenBy, takenIn, andThen}
-use Rattle.listing_tally.specs.Standings.{Standing, standsAt, stop, endTaken}
+use Rattle.listing_tally.specs.Standings.{Standing, standsAt, refused, endTaken}
 use Rattle.listing_tally.specs.declared.Phase.{Phase}
 use Rattle.listing_tally.specs.declared.Phase.the-variants.{Empty, Inside, Whole, Stopped}
 use Rattle.listing_tally.specs.declared.Progress.{Progress}
@@ -222,7 +222,7 @@ module _ (bytes : List ℕ) (pos : ℕ) (line : List ℕ) (held : ℕ) (phase : 
       by-test (leb (held + length rest) longestLine)
       (λ z. let h : held + n ≤ longestLine = omega (arith, leb-true (held + length rest) longestLine z, rest-long) in
       turn-line h (before-end h over) _ _ _ refl)
-      (λ z. let q : endTaken reads extents stack counts phase line held rest ≡ standsAt (stop 1 reads extents) stack counts = rw z in
+      (λ z. let q : endTaken reads extents stack counts phase line held rest ≡ standsAt (refused 1 reads extents) stack counts = rw z in
       subst (λ (s : Standing). Leaves (reachedBy line (pos + n + 1) (length bytes) s)) (sym q) (turn-long (omega (arith, leb-false (held + length rest) longestLine z, rest-long))))
     where
       -- a line that fits and ends in the piece

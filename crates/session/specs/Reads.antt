@@ -72,10 +72,6 @@ taken s x = stepAt s x (depth (stackOf s) x)
 abbrev pub refused : Session → ℕ → Step
 refused s n = record { session = s; answer = Refused n }
 
--- `refused`, by the name that session_words has for it
-abbrev pub turnedAway : Session → ℕ → Step
-turnedAway = refused
-
 -- x would be one extent too many
 unfoldable pub tooMany : Session → ℕ → Bool
 tooMany s x = not (mem x (stackOf s)) && eqb (extents s) maxExtents

@@ -1,9 +1,9 @@
--- `listing::refuses_text` meets its contract.
+-- `listing_soundness::refuses_text` meets its contract.
 use borrow.Author.Tests.{eq-eqb, ne-eqb}
-use Rattle.listing.specs.Listers.{refusesText}
+use Rattle.listing_soundness.specs.Soundness.{refusesText}
 use borrow.Author.Needs.{needs}
-use Rattle.listing.proofs.refuses_text.Statement.{statement}
-use Rattle.listing.proofs.refuses_text.Tie as tie
+use Rattle.listing_soundness.proofs.refuses_text.Statement.{statement}
+use Rattle.listing_soundness.proofs.refuses_text.Tie as tie
 
 returns : tie.Need-returns
 unfolding refusesText

@@ -1,9 +1,9 @@
--- `listing::holds_phase` meets its contract.
+-- `listing_soundness::holds_phase` meets its contract.
 use borrow.Author.Tests.{eq-eqb, ne-eqb}
-use Rattle.listing.specs.Listers.{holdsPhase}
+use Rattle.listing_soundness.specs.Soundness.{holdsPhase}
 use borrow.Author.Needs.{needs}
-use Rattle.listing.proofs.holds_phase.Statement.{statement}
-use Rattle.listing.proofs.holds_phase.Tie as tie
+use Rattle.listing_soundness.proofs.holds_phase.Statement.{statement}
+use Rattle.listing_soundness.proofs.holds_phase.Tie as tie
 
 enum-told : tie.Need-enum-told
 enum-told c = search needs
