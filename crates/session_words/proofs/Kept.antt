@@ -19,7 +19,7 @@ use Rattle.session.specs.declared.Answer.{Answer}
 use Rattle.session.specs.declared.Answer.the-variants.{Cold, Distance, Refused}
 use Rattle.session.specs.Sessions.{fresh}
 use Rattle.session_soundness.specs.Soundness.{Wide}
-use Rattle.session.specs.Reads.{turnedAway, readOf}
+use Rattle.session.specs.Reads.{refused as readRefused, readOf}
 use Rattle.session_summary.specs.Summaries.{summaryCall, missesCall, shareCall}
 use Rattle.session_words.specs.Layout.{sessionLength, sessionIn, sessionLaid}
 use Rattle.session_words.specs.Calls.{newSession, readIn, sessionLeft, summaryIn, missesIn, shareIn, isRead}
@@ -42,7 +42,7 @@ module _ (w : List ℕ) where
     new-short = wrote-short (sessionLaid fresh) w (omega (arith, few, laid-length fresh fresh-wide))
 
     -- no session to read with
-    pub read-short : (x : ℕ) → readIn w x ≡ turnedAway (sessionIn w) 7
+    pub read-short : (x : ℕ) → readIn w x ≡ readRefused (sessionIn w) 7
     unfolding readIn
     read-short x = simp (lt-leb sessionLength (length w) few)
 

@@ -15,7 +15,7 @@ use Rattle.session.specs.declared.Step.{Step}
 use Rattle.session.specs.declared.Answer.{Answer}
 use Rattle.session.specs.declared.Answer.the-variants.{Cold, Distance, Refused}
 use Rattle.session.specs.Sessions.{fresh}
-use Rattle.session.specs.Reads.{turnedAway, readOf}
+use Rattle.session.specs.Reads.{refused as readRefused, readOf}
 use Rattle.session_summary.specs.Summaries.{summaryCall, missesCall, shareCall}
 use Rattle.session_words.specs.Layout.{sessionLength, sessionIn, sessionLaid}
 
@@ -25,7 +25,7 @@ newSession w = wrote (sessionLaid fresh) w
 
 -- a read of the session in the first words; too few words are no sound session
 unfoldable pub readIn : List ℕ → ℕ → Step
-readIn w x = cond (leb sessionLength (length w)) (readOf (sessionIn w) x) (turnedAway (sessionIn w) 7)
+readIn w x = cond (leb sessionLength (length w)) (readOf (sessionIn w) x) (readRefused (sessionIn w) 7)
 
 -- the words after a read: the session's at their front; a refusal leaves them as they were
 abbrev pub sessionLeft : Answer → Session → List ℕ → List ℕ
