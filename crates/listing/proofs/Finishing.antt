@@ -22,7 +22,7 @@ use Rattle.listing_pages.specs.declared.Page.{Page}
 use Rattle.listing_pages.proofs.Pieces.{page-front, page-len}
 use Rattle.listing_soundness.specs.Soundness.{refusesText}
 use Rattle.listing.specs.Listers.{soundLister, stateOf}
-use Rattle.listing_texts.specs.Pages.{pageBytes, Counted}
+use Rattle.listing_texts.specs.Pages.{pageBytes, AddsUp}
 use Rattle.listing_texts.specs.Tallies.{Tally, missesBy}
 use Rattle.listing.specs.declared.Lister.{Lister}
 use Rattle.listing_tally.specs.declared.Phase.{Phase}
@@ -80,7 +80,7 @@ unfolding printedAt finishBy
 print-tally t = refl
 
 -- the counts of a tally count its reads
-pub counted : (reads extents : ℕ) (stack counts : List ℕ) → Tallied reads extents stack counts → Counted reads (take extents counts)
+pub counted : (reads extents : ℕ) (stack counts : List ℕ) → Tallied reads extents stack counts → AddsUp reads (take extents counts)
 counted reads extents stack counts g =
     let e : length (take extents counts) ≡ extents = length-take-le extents counts (omega arith) in
     record {

@@ -7,7 +7,7 @@ use mathlib.Core.Bool.{true, false, _&&_}
 use lib.Dec.{eqb}
 use lib.ListN.{length, take, length-take, length-replicate}
 use lib.Seq.{length-take-le}
-use borrow.Author.Tests.{le-leb, eq-eqb}
+use borrow.Author.Tests.{le-leb, eq-eqb, eqb-true}
 use Rattle.reuse.specs.Limits.{maxReads, maxExtents}
 use Rattle.reuse.specs.Lists.{sum}
 use Rattle.reuse.proofs.Lists.{by-test, both}
@@ -26,10 +26,10 @@ use Rattle.listing_tally.specs.declared.Phase.the-variants.{Empty, Inside, Whol
 use Rattle.listing_turns.specs.Turns.{isStopped}
 use Rattle.listing_turns.proofs.Turns.{stateIn}
 use Rattle.listing_soundness.specs.Soundness.{holdsLine, holdsTally, holdsPhase, refusesText}
-use Rattle.listing_soundness.proofs.Soundness.{line-facts}
+use Rattle.listing_soundness.proofs.Soundness.{line-facts, tally-rest}
 use Rattle.listing.specs.Listers.{blankLine, soundLister, stateOf, listerWith, listerOf, emptyLister, takesMore, fedOf}
 use Rattle.listing.specs.declared.Lister.{Lister}
-use Rattle.listing.proofs.Rows.{line-front, line-rest, words-rest}
+use Rattle.listing.proofs.Rows.{line-front, line-rest, words-rest, line-same, words-same}
 use Rattle.listing.proofs.Kept.{KeptTally, Kept, rows-kept, kept-rows, kept-tally, none-kept, none-ends, piece-kept}
 use Rattle.listing.proofs.Soundness.{sound-parts, sound-facts, state-sound, state-unsound}
 
@@ -223,3 +223,47 @@ module _ (line : List ℕ) (held : ℕ) (phase : Phase) (reads extents : ℕ) (s
   pub stands-stopped : (n : ℕ) → phase ≡ Stopped n → listerWith (take 0 line) phase (tallyIn 0 0 stack counts) ≡ listerOf (stateIn phase reads extents stack counts (take held line))
   unfolding listerOf
   stands-stopped n e = rw e
+
+-- a sound lister is the one of the text that it stands for
+module _ (l : Lister) (w : Wide l) (line-wide : length (l .line) ≡ longestLine) (h : soundLister l ≡ true) where
+  -- laid again it is as it was
+  laid-same : listerWith (take (l .held) (l .line)) (l .phase) (tallyIn (l .reads) (l .extents) (l .stack) (l .counts)) ≡ l
+  unfolding listerWith
+  laid-same =
+      let f = sound-facts l h (w .stack-wide) (w .counts-wide) in
+      let p = sound-parts l h in
+      let a = line-facts (l .line) (l .held) (p .0) in
+      let b = tally-rest (l .reads) (l .extents) (l .stack) (l .counts) (p .1) in
+      let n : length (take (l .held) (l .line)) ≡ l .held = length-take-le (l .held) (l .line) (omega (arith, a .0)) in
+      let v : length (take (l .extents) (l .stack)) ≡ l .extents = length-take-le (l .extents) (l .stack) (omega (arith, f .1 .few, w .stack-wide)) in
+      rw (line-same (l .line) (l .held) line-wide (a .0) (a .2), n, v, words-same (l .stack) (l .extents) (w .stack-wide) (f .1 .few) (b .0), words-same (l .counts) (l .extents) (w .counts-wide) (f .1 .few) (b .1))
+
+  -- no reads are of no extents
+  none-read : l .reads ≡ 0 → l .extents ≡ 0
+  none-read e = let f = sound-facts l h (w .stack-wide) (w .counts-wide) in omega (arith, f .1 .all)
+
+  -- by its phase
+  phase-same : (p : Phase) → l .phase ≡ p → holdsPhase p (l .held) (l .reads) ≡ true
+      → listerOf (stateIn (l .phase) (l .reads) (l .extents) (l .stack) (l .counts) (take (l .held) (l .line))) ≡ l
+  unfolding holdsPhase
+  phase-same Empty e g =
+      let z : l .reads ≡ 0 = eqb-true (l .reads) 0 g in
+      sym (stands-empty (l .line) (l .held) (l .phase) (l .reads) (l .extents) (l .stack) (l .counts) e)
+      ∙ ap (λ (r : ℕ). listerWith (take (l .held) (l .line)) (l .phase) (tallyIn r 0 (l .stack) (l .counts))) (sym z)
+      ∙ ap (λ (v : ℕ). listerWith (take (l .held) (l .line)) (l .phase) (tallyIn (l .reads) v (l .stack) (l .counts))) (sym (none-read z))
+      ∙ laid-same
+  phase-same Inside e g = sym (stands-inside (l .line) (l .held) (l .phase) (l .reads) (l .extents) (l .stack) (l .counts) e) ∙ laid-same
+  phase-same Whole e g = sym (stands-whole (l .line) (l .held) (l .phase) (l .reads) (l .extents) (l .stack) (l .counts) e) ∙ laid-same
+  phase-same (Stopped n) e g =
+      let b = both (eqb (l .held) 0 && eqb (l .reads) 0) (refusesText n) g in
+      let d = both (eqb (l .held) 0) (eqb (l .reads) 0) (b .0) in
+      let z : l .reads ≡ 0 = eqb-true (l .reads) 0 (d .1) in
+      sym (stands-stopped (l .line) (l .held) (l .phase) (l .reads) (l .extents) (l .stack) (l .counts) n e)
+      ∙ ap (λ (k : ℕ). listerWith (take k (l .line)) (l .phase) (tallyIn 0 0 (l .stack) (l .counts))) (sym (eqb-true (l .held) 0 (d .0)))
+      ∙ ap (λ (r : ℕ). listerWith (take (l .held) (l .line)) (l .phase) (tallyIn r 0 (l .stack) (l .counts))) (sym z)
+      ∙ ap (λ (v : ℕ). listerWith (take (l .held) (l .line)) (l .phase) (tallyIn (l .reads) v (l .stack) (l .counts))) (sym (none-read z))
+      ∙ laid-same
+
+  -- whatever its phase
+  pub lister-same : listerOf (stateOf l) ≡ l
+  lister-same = ap listerOf (state-sound l h) ∙ phase-same (l .phase) refl (sound-parts l h .2)

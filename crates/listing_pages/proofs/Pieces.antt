@@ -8,7 +8,7 @@ use Rattle.reuse_rows.specs.Rows.{putAt}
 use Rattle.texts.specs.Bytes.{bytes}
 use Rattle.listing_texts.specs.Pieces.{endToEnd}
 use Rattle.listing_texts.specs.Listings.{atRows, listed, refusedText}
-use Rattle.listing_texts.specs.Pages.{pageBytes, closing, lineEnd}
+use Rattle.listing_texts.specs.Pages.{pageBytes, rowCloses, lineEnd}
 use Rattle.listing_texts.proofs.RowLaws.{rowAt, rows-cons}
 use Rattle.listing_rows.specs.Laying.{Laid, laidAt, lay, layAll, namedPieces, rowPieces}
 use Rattle.listing_rows.proofs.Laying.{all-fit, laid-front}
@@ -43,11 +43,11 @@ refusal-then d n p q = q ∙ ap (λ (u : Laid). lay u (bytes ")\n")) p
 
 -- those of a listing, by the calls that lay them
 pub listing-then : (d : Laid) (reads cold : ℕ) (m : ℕ → ℕ) {e f g h : Laid}
-    → e ≡ layAll d (namedPieces (bytes "(sizing\n (reads ") reads) → f ≡ layAll e (namedPieces (bytes ")\n (cold ") cold) → g ≡ lay f (lineEnd (closing cold)) → h ≡ layAll g (rowsPieces m 1 cold)
+    → e ≡ layAll d (namedPieces (bytes "(sizing\n (reads ") reads) → f ≡ layAll e (namedPieces (bytes ")\n (cold ") cold) → g ≡ lay f (lineEnd (rowCloses cold)) → h ≡ layAll g (rowsPieces m 1 cold)
     → h ≡ layAll d (listingPieces reads cold m)
 listing-then d reads cold m p q s t =
     t ∙ ap (λ (u : Laid). layAll u (rowsPieces m 1 cold))
-    (s ∙ ap (λ (u : Laid). lay u (lineEnd (closing cold))) (q ∙ ap (λ (u : Laid). layAll u (namedPieces (bytes ")\n (cold ") cold)) p))
+    (s ∙ ap (λ (u : Laid). lay u (lineEnd (rowCloses cold))) (q ∙ ap (λ (u : Laid). layAll u (namedPieces (bytes ")\n (cold ") cold)) p))
 
 -- a blank page has its bytes
 blank-length : length blankPage ≡ pageBytes

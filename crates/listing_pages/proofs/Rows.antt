@@ -6,7 +6,7 @@ use mathlib.Core.List.{List}
 use lib.ListN.{length, getD}
 use Rattle.reuse.proofs.Sums.{sum-drop}
 use Rattle.listing_texts.specs.Tallies.{missesBy}
-use Rattle.listing_texts.specs.Pages.{Counted}
+use Rattle.listing_texts.specs.Pages.{AddsUp}
 use Rattle.listing_rows.specs.Laying.{Laid, laidAt, layAll, rowPieces}
 use Rattle.listing_pages.specs.Texts.{rowsPieces}
 
@@ -19,7 +19,7 @@ pub record Rows (was : List ℕ) (at : ℕ) (counts page : List ℕ) (next misse
 
 module _ (was : List ℕ) (at : ℕ) (counts : List ℕ) where
   -- none is laid
-  pub rows-start : (reads : ℕ) → Counted reads counts → Rows was at counts was at reads 0
+  pub rows-start : (reads : ℕ) → AddsUp reads counts → Rows was at counts was at reads 0
   rows-start reads g = let z : length counts - 0 ≡ length counts = omega arith in record {
     within = omega arith;
     long = refl;

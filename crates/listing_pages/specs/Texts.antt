@@ -4,7 +4,7 @@ use mathlib.Core.List.{List, [], _∷_, _++_}
 use lib.ListN.{length, replicate}
 use Rattle.reuse_rows.specs.Rows.{putAt}
 use Rattle.texts.specs.Bytes.{bytes}
-use Rattle.listing_texts.specs.Pages.{pageBytes, closing, lineEnd}
+use Rattle.listing_texts.specs.Pages.{pageBytes, rowCloses, lineEnd}
 use Rattle.listing_rows.specs.Laying.{namedPieces, rowPieces}
 use Rattle.listing_pages.specs.declared.Page.{Page}
 
@@ -16,7 +16,7 @@ rowsPieces misses c (suc k) = rowPieces c (misses c) k ++ rowsPieces misses (suc
 -- a listing
 abbrev pub listingPieces : ℕ → ℕ → (ℕ → ℕ) → List (List ℕ)
 listingPieces reads cold misses =
-    namedPieces (bytes "(sizing\n (reads ") reads ++ (namedPieces (bytes ")\n (cold ") cold ++ (lineEnd (closing cold) ∷ rowsPieces misses 1 cold))
+    namedPieces (bytes "(sizing\n (reads ") reads ++ (namedPieces (bytes ")\n (cold ") cold ++ (lineEnd (rowCloses cold) ∷ rowsPieces misses 1 cold))
 
 -- a refusal
 abbrev pub refusedPieces : ℕ → List (List ℕ)

@@ -3,7 +3,7 @@ ghost use mathlib.Core.Path.{_≡_};
 ghost use lib.ListN.{length};
 ghost use Rattle.listing_texts.specs.Listings.{refusedText};
 ghost use Rattle.listing_texts.specs.Tallies.{missesBy};
-ghost use Rattle.listing_texts.specs.Pages.{Counted, pageText};
+ghost use Rattle.listing_texts.specs.Pages.{AddsUp, pageText};
 ghost use Rattle.listing_rows.specs.Laying.{laidAt, layAll};
 ghost use Rattle.listing_pages.specs.Texts.{rowsPieces, listingPieces, refusedPieces, pageOf};
 
@@ -18,7 +18,7 @@ pub struct Page {
 
 // The rows of all sizes from 1 to the number of counts are laid from place `at` on.
 fn put_rows(page: &mut [u8], at: usize, reads: u32, counts: &[u32]) -> usize
-    requires { ⌜ Counted reads (now counts) ⌝ }
+    requires { ⌜ AddsUp reads (now counts) ⌝ }
     ensures { λ r. ⌜ laidAt (now (page .exit)) r ≡ layAll (laidAt (now (page .entry)) at) (rowsPieces (missesBy (now (counts .entry))) 1 (length (now (counts .entry)))) ⌝ }
 {
     let mut next = at;
@@ -36,7 +36,7 @@ fn put_rows(page: &mut [u8], at: usize, reads: u32, counts: &[u32]) -> usize
 
 // The listing of so many reads, with these counts of the distances, is laid at the front.
 fn put_listing(page: &mut [u8], reads: u32, counts: &[u32]) -> usize
-    requires { ⌜ Counted reads (now counts) ⌝ }
+    requires { ⌜ AddsUp reads (now counts) ⌝ }
     ensures { λ r. ⌜ laidAt (now (page .exit)) r ≡ layAll (laidAt (now (page .entry)) 0) (listingPieces reads (length (now (counts .entry))) (missesBy (now (counts .entry)))) ⌝ }
 {
     let cold = counts.len();

@@ -10,7 +10,7 @@ use Rattle.reuse_rows.specs.Rows.{putAt, placed}
 use Rattle.reuse_copies.proofs.Puts.{put-none, put-length, put-append, placed-fits}
 use Rattle.texts.specs.Bytes.{bytes}
 use Rattle.listing_texts.specs.Pieces.{endToEnd}
-use Rattle.listing_texts.specs.Pages.{closing, lineEnd}
+use Rattle.listing_texts.specs.Pages.{rowCloses, lineEnd}
 use Rattle.listing_rows.specs.Laying.{Laid, laidAt, lay, layAll, namedPieces, rowPieces}
 
 -- a piece that fits
@@ -34,18 +34,18 @@ lay-then d x y p q = q ∙ ap (λ (u : Laid). lay u y) p
 
 -- the pieces of a row, by the calls that lay them
 pub row-then : (d : Laid) (size misses rows : ℕ) {e f g : Laid}
-    → e ≡ layAll d (namedPieces (bytes " (at ") size) → f ≡ layAll e (namedPieces (bytes " ") misses) → g ≡ lay f (lineEnd (closing rows))
+    → e ≡ layAll d (namedPieces (bytes " (at ") size) → f ≡ layAll e (namedPieces (bytes " ") misses) → g ≡ lay f (lineEnd (rowCloses rows))
     → g ≡ layAll d (rowPieces size misses rows)
 row-then d size misses rows p q s =
-    s ∙ ap (λ (u : Laid). lay u (lineEnd (closing rows))) (q ∙ ap (λ (u : Laid). layAll u (namedPieces (bytes " ") misses)) p)
+    s ∙ ap (λ (u : Laid). lay u (lineEnd (rowCloses rows))) (q ∙ ap (λ (u : Laid). layAll u (namedPieces (bytes " ") misses)) p)
 
 -- the end of the last row
-pub end-last : (d : Laid) (rows : ℕ) → rows ≡ 0 → {e : Laid} → e ≡ lay d (bytes "))\n") → e ≡ lay d (lineEnd (closing rows))
+pub end-last : (d : Laid) (rows : ℕ) → rows ≡ 0 → {e : Laid} → e ≡ lay d (bytes "))\n") → e ≡ lay d (lineEnd (rowCloses rows))
 end-last d zero h p = p
 end-last d (suc k) h p = absurd (omega arith)
 
 -- the end of a row before it
-pub end-inner : (d : Laid) (rows : ℕ) → (rows ≡ 0 → ⊥) → {e : Laid} → e ≡ lay d (bytes ")\n") → e ≡ lay d (lineEnd (closing rows))
+pub end-inner : (d : Laid) (rows : ℕ) → (rows ≡ 0 → ⊥) → {e : Laid} → e ≡ lay d (bytes ")\n") → e ≡ lay d (lineEnd (rowCloses rows))
 end-inner d zero h p = absurd (h refl)
 end-inner d (suc k) h p = p
 

@@ -7,7 +7,7 @@ use lib.ListN.{length}
 use Rattle.reuse_rows.specs.Rows.{putAt}
 use Rattle.texts.specs.Bytes.{bytes}
 use Rattle.texts.specs.Digits.{decimal}
-use Rattle.listing_texts.specs.Pages.{closing, lineEnd}
+use Rattle.listing_texts.specs.Pages.{rowCloses, lineEnd}
 
 -- a page of bytes, and the place where the next ones go
 pub record Laid : Type 0 where
@@ -33,4 +33,4 @@ namedPieces word n = word ∷ decimal n ∷ []
 
 -- the row of one size, which so many rows follow
 abbrev pub rowPieces : ℕ → ℕ → ℕ → List (List ℕ)
-rowPieces size misses rows = bytes " (at " ∷ decimal size ∷ bytes " " ∷ decimal misses ∷ lineEnd (closing rows) ∷ []
+rowPieces size misses rows = bytes " (at " ∷ decimal size ∷ bytes " " ∷ decimal misses ∷ lineEnd (rowCloses rows) ∷ []

@@ -2,7 +2,7 @@
 ghost use mathlib.Core.Path.{_≡_};
 ghost use Prim.Native.Nat.{_+_, _≤_};
 ghost use Rattle.texts.specs.Digits.{decimal};
-ghost use Rattle.listing_texts.specs.Pages.{closing, lineEnd};
+ghost use Rattle.listing_texts.specs.Pages.{rowCloses, lineEnd};
 ghost use Rattle.listing_rows.specs.Laying.{laidAt, lay, layAll, namedPieces, rowPieces};
 
 // The bytes are laid from place `at` on; the answer is the place after them, or `at` where they do not fit.
@@ -54,7 +54,7 @@ pub fn put_named(page: &mut [u8], at: usize, word: &[u8], n: u32) -> usize
 
 // The brackets and the end of a row that `rows` more follow are laid from place `at` on.
 pub fn put_end(page: &mut [u8], at: usize, rows: usize) -> usize
-    ensures { λ r. ⌜ laidAt (now (page .exit)) r ≡ lay (laidAt (now (page .entry)) at) (lineEnd (closing rows)) ⌝ }
+    ensures { λ r. ⌜ laidAt (now (page .exit)) r ≡ lay (laidAt (now (page .entry)) at) (lineEnd (rowCloses rows)) ⌝ }
 {
     if rows == 0 {
         return put(page, at, b"))\n");

@@ -88,6 +88,14 @@ module _ (reads extents : ℕ) (stack counts : List ℕ) where
         tally-left h a b p q =
             rw (le-leb extents maxExtents few, le-leb reads maxReads short, once, eq-eqb (extents + sum (take extents counts)) reads (omega (arith, h, is)), p, q)
 
+  -- what stands after it is 0
+  pub tally-rest : holdsTally reads extents stack counts ≡ true → (blank (drop extents stack) ≡ true) × (blank (drop extents counts) ≡ true)
+  unfolding holdsTally
+  tally-rest h =
+      let all = leb extents maxExtents && leb reads maxReads && distinct (take extents stack) && eqb (extents + sum (take extents counts)) reads in
+      let a = both (all && blank (drop extents stack)) (blank (drop extents counts)) h in
+      (both all (blank (drop extents stack)) (a .0) .1, a .1)
+
   -- what it gives
   pub tally-facts : holdsTally reads extents stack counts ≡ true → length stack ≡ maxExtents → length counts ≡ maxExtents → Tallied reads extents stack counts
   unfolding holdsTally

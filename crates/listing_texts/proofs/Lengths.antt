@@ -17,7 +17,7 @@ use Rattle.texts.proofs.Numbers.{decimal-length}
 use Rattle.texts.proofs.LogSound.{sound}
 use Rattle.listing_texts.specs.Listings.{coldRow, atRows, listed, refusedText, sizesOf, listingOf}
 use Rattle.listing_texts.specs.Tallies.{missesBy}
-use Rattle.listing_texts.specs.Pages.{rowRoom, pageBytes, Counted}
+use Rattle.listing_texts.specs.Pages.{rowRoom, pageBytes, AddsUp}
 use Rattle.listing_texts.proofs.RowLaws.{rowAt, rows-cons}
 use Rattle.listing_texts.proofs.Listings.{listing-read}
 
@@ -48,7 +48,7 @@ listed-length reads cold m h g b =
     (omega (arith, decimal-length reads h, cold-length cold (omega arith), rows-length m b cold 1 (omega arith)))
 
 -- that of the listing of counts that add up
-pub counted-length : (reads : ℕ) (counts : List ℕ) → reads < tooLong → Counted reads counts → length (listed reads (length counts) (missesBy counts)) ≤ pageBytes
+pub counted-length : (reads : ℕ) (counts : List ℕ) → reads < tooLong → AddsUp reads counts → length (listed reads (length counts) (missesBy counts)) ≤ pageBytes
 counted-length reads counts h g =
     listed-length reads (length counts) (missesBy counts) h (g .few) (λ d. omega (arith, sum-drop-le d counts, g .whole))
 

@@ -8,11 +8,11 @@ use Rattle.reuse.specs.Limits.{maxExtents}
 use Rattle.reuse.specs.Lists.{sum}
 use Rattle.listing_texts.specs.Listings.{atRow, atRows, listed, refusedText}
 use Rattle.listing_texts.specs.Tallies.{missesBy}
-use Rattle.listing_texts.specs.Pages.{Counted, closing, pageText}
+use Rattle.listing_texts.specs.Pages.{AddsUp, rowCloses, pageText}
 
 -- the row of one size with its line's end
 abbrev pub rowAt : ℕ → ℕ → ℕ → List ℕ
-rowAt c n rows = atRow c n (closing rows) ++ (10 ∷ [])
+rowAt c n rows = atRow c n (rowCloses rows) ++ (10 ∷ [])
 
 -- the first of the rows, and the others
 pub rows-cons : (m : ℕ → ℕ) (c k : ℕ) → atRows m c (suc k) ≡ rowAt c (m c) k ++ atRows m (suc c) k
@@ -21,7 +21,7 @@ rows-cons m c zero = sym (append-nil (rowAt c (m c) 0))
 rows-cons m c (suc k) = sym (append-assoc (atRow c (m c) 1) (10 ∷ []) (atRows m (suc c) (suc k)))
 
 -- the page of counts that add up is the listing
-pub page-listed : (reads : ℕ) (counts : List ℕ) → Counted reads counts → listed reads (length counts) (missesBy counts) ≡ pageText reads counts
+pub page-listed : (reads : ℕ) (counts : List ℕ) → AddsUp reads counts → listed reads (length counts) (missesBy counts) ≡ pageText reads counts
 unfolding pageText
 page-listed reads counts g = rw (le-leb (length counts) maxExtents (g .few), eq-eqb (length counts + sum counts) reads (g .whole))
 

@@ -20,16 +20,16 @@ abbrev pub rowRoom : ℕ
 rowRoom = 30
 
 -- how many brackets close a row that so many rows follow: the last row closes the listing too
-abbrev pub closing : ℕ → ℕ
-closing zero = 2
-closing (suc k) = 1
+abbrev pub rowCloses : ℕ → ℕ
+rowCloses zero = 2
+rowCloses (suc k) = 1
 
 -- so many brackets and the line's end
 abbrev pub lineEnd : ℕ → List ℕ
 lineEnd closes = close closes ++ (10 ∷ [])
 
 -- the reads are the cold ones, no more than the limit, and those that the counts count
-pub record Counted (reads : ℕ) (counts : List ℕ) : Type 0 where
+pub record AddsUp (reads : ℕ) (counts : List ℕ) : Type 0 where
   pub few : length counts ≤ maxExtents
   pub whole : length counts + sum counts ≡ reads
 

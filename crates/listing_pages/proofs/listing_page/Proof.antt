@@ -6,7 +6,7 @@ use lib.ListN.{length}
 use lib.Seq.{take-all}
 use Rattle.reuse.specs.Limits.{maxExtents}
 use Rattle.reuse.specs.Lists.{sum}
-use Rattle.listing_texts.specs.Pages.{Counted}
+use Rattle.listing_texts.specs.Pages.{AddsUp}
 use Rattle.listing_texts.specs.Tallies.{missesBy}
 use Rattle.listing_texts.proofs.RowLaws.{page-listed, page-many, page-other}
 use Rattle.listing_texts.proofs.Lengths.{counted-length}
@@ -21,7 +21,7 @@ total-is : (c : tie.After-total) → length (c .before .before .before .args .co
 total-is c h = c .total .ensures .0 ∙ ap sum (take-all maxExtents (c .before .before .before .args .counts .now) h)
 
 -- counts that the code has found to add up
-adds : (c : tie.After-bytes) → Counted (c .before .before .before .before .before .args .reads) (c .before .before .before .before .before .args .counts .now)
+adds : (c : tie.After-bytes) → AddsUp (c .before .before .before .before .before .args .reads) (c .before .before .before .before .before .args .counts .now)
 adds c = let s = total-is (c .before .before) (omega arith) in record { few = omega arith; whole = omega arith }
 
 refused-page-requires : tie.Need-refused-page-requires

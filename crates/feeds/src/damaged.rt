@@ -1,0 +1,111 @@
+// Listers that no text gives: each is refused 7 and comes back word for word.
+use crate::pieces;
+use crate::report;
+use listing::Lister;
+use listing::Phase;
+use reuse::MAX_EXTENTS;
+
+// A lister with the extent 7 first in its stack, where it has one, and these words besides.
+fn lister(
+    byte: u8,
+    held: usize,
+    phase: Phase,
+    reads: u32,
+    extents: usize,
+    second: u32,
+    count: u32,
+) -> Lister {
+    let mut line = [0u8; 19];
+    line[0] = byte;
+    let mut stack = [0u32; MAX_EXTENTS];
+    if 0 < extents {
+        stack[0] = 7;
+    }
+    stack[1] = second;
+    let mut counts = [0u32; MAX_EXTENTS];
+    counts[1] = count;
+    Lister {
+        line,
+        held,
+        phase,
+        reads,
+        extents,
+        stack,
+        counts,
+    }
+}
+
+// The refusal's number of a phase, and 0 where it has none.
+fn number(phase: Phase) -> u32 {
+    match phase {
+        Phase::Empty => 0,
+        Phase::Inside => 0,
+        Phase::Whole => 0,
+        Phase::Stopped(n) => n,
+    }
+}
+
+// Whether two rows have the same words.
+fn row_same(a: [u32; MAX_EXTENTS], b: [u32; MAX_EXTENTS]) -> bool {
+    let mut same = true;
+    for i in 0..MAX_EXTENTS {
+        if a[i] != b[i] {
+            same = false;
+        }
+    }
+    same
+}
+
+// Whether two listers have the same words.
+fn same(a: Lister, b: Lister) -> bool {
+    let line = a.line;
+    let other = b.line;
+    if !check::same(&line, &other) {
+        return false;
+    }
+    if a.held != b.held || a.reads != b.reads || a.extents != b.extents {
+        return false;
+    }
+    let phase = a.phase;
+    let left = b.phase;
+    if number(phase) != number(left) {
+        return false;
+    }
+    let stack = a.stack;
+    let stacked = b.stack;
+    let counts = a.counts;
+    let counted = b.counts;
+    row_same(stack, stacked) && row_same(counts, counted)
+}
+
+// A lister fed the end of a trace: its output, and whether its words are as they were.
+fn fed(name: &[u8], before: Lister) {
+    let after = before.feed(b" (read 7))\n");
+    let page = after.finish();
+    let bytes = page.bytes;
+    report::output(name, pieces::front(&bytes, page.len));
+    report::kept(same(before, after));
+}
+
+// One that a text gives, and then one for each kind of damage.
+pub fn all() {
+    let inside = Phase::Inside;
+    fed(b"inside", lister(0, 0, inside, 1, 1, 0, 0));
+    fed(b"refused 3", lister(0, 0, Phase::Stopped(3), 0, 0, 0, 0));
+    fed(
+        b"refused with reads",
+        lister(0, 0, Phase::Stopped(1), 1, 1, 0, 0),
+    );
+    fed(
+        b"reads before the first line",
+        lister(0, 0, Phase::Empty, 1, 1, 0, 0),
+    );
+    fed(b"byte 10 held", lister(10, 1, inside, 1, 1, 0, 0));
+    fed(b"20 bytes held", lister(0, 20, inside, 1, 1, 0, 0));
+    fed(b"a byte past those held", lister(65, 0, inside, 1, 1, 0, 0));
+    fed(b"257 extents", lister(0, 0, inside, 257, 257, 0, 0));
+    fed(b"an extent twice", lister(0, 0, inside, 2, 2, 7, 0));
+    fed(b"a read not counted", lister(0, 0, inside, 2, 1, 0, 0));
+    fed(b"a word past the stack", lister(0, 0, inside, 1, 1, 9, 0));
+    fed(b"a word past the counts", lister(0, 0, inside, 1, 1, 0, 9));
+}
