@@ -4,10 +4,10 @@ use Prim.Native.Nat.{ℕ}
 use mathlib.Core.List.{List, [], _∷_}
 use mathlib.Core.Bool.{true}
 use Rattle.texts.specs.Lines.{at}
-use Rattle.texts.specs.Logs.{logOf}
+use Rattle.texts.specs.Logs.{logOf, empty}
 use Rattle.listing_texts.specs.Pieces.{endToEnd}
 use Rattle.listing_texts.specs.Listings.{listingOf}
-use Rattle.listing_texts.specs.Feeding.{empty, State, takePiece, unnumbered, printedAt, verdictBy, verdictAt}
+use Rattle.listing_texts.specs.Feeding.{State, takePiece, unnumbered, printedAt, verdictBy, verdictAt}
 use Rattle.listing_texts.proofs.Refining.{pieces-join, listing-whole, verdict-text}
 use Rattle.listing_texts.proofs.Unnumbered.{take-none, uncounted, printed-uncounted, verdict-uncounted}
 use Rattle.listing.specs.Listers.{soundLister, stateOf, emptyLister, fedOf}

@@ -12,7 +12,8 @@ use borrow.Author.Tests.{eqb-true}
 use Rattle.reuse.proofs.Lists.{by-test}
 use Rattle.texts.specs.Lines.{Answer, to, no, at, stopped, Read, got, refused, finishBy}
 use Rattle.texts.proofs.Tests.{never}
-use Rattle.listing_texts.specs.Feeding.{Taken, empty, inside, whole, State, takenWhole, printedBy, printedAt, verdictBy, verdictAt, stateBy}
+use Rattle.texts.specs.Logs.{empty, inside, whole}
+use Rattle.listing_texts.specs.Feeding.{Taken, State, takenWhole, printedBy, printedAt, verdictBy, verdictAt, stateBy}
 use Rattle.listing_texts.specs.Listings.{listed, refusedText}
 use Rattle.listing_tally.specs.Rows.{Tallied, tallyIn, takenBy}
 use Rattle.listing_turns.proofs.Turns.{stateIn}

@@ -17,11 +17,11 @@ use Rattle.reuse_copies.proofs.Padding.{padded-front, padded-wide}
 use Rattle.texts.specs.Limits.{maxExtent}
 use Rattle.texts.specs.Words.{after}
 use Rattle.texts.specs.Lines.{Answer, to, no, at, stopped, unless, feedBy, lineCount}
-use Rattle.texts.specs.Logs.{Row, row, badRow, rowOf, traceWord, longestLine, logRoom}
+use Rattle.texts.specs.Logs.{Row, row, badRow, rowOf, traceWord, longestLine, logRoom, empty, inside, whole, read, rowBy, headBy, stepBy}
 use Rattle.texts.proofs.Tests.{never}
 use Rattle.texts.proofs.Feeding.{count-append, count-other, absorb, by-byte}
 use Rattle.listing_texts.specs.Tallies.{Tally, noReads, tallied, overTally}
-use Rattle.listing_texts.specs.Feeding.{Taken, empty, inside, whole, taken, takeRow, takeHead, takeLine, State, takePiece, stateBy}
+use Rattle.listing_texts.specs.Feeding.{Taken, takeRow, takeHead, takeLine, State, takePiece, stateBy}
 use Rattle.listing_tally.specs.Rows.{Tallied, tallyIn, takenBy, takenIn}
 use Rattle.listing_tally.specs.Standings.{lineTaken}
 use Rattle.listing_tally.specs.declared.Phase.{Phase}
@@ -111,7 +111,7 @@ fault-number n q = let z : 1 ≡ n = cc in rw (← z)
 
 -- a line is refused with such a number
 line-number : (s : Taken) (line : List ℕ) (n : ℕ) → takeLine s line ≡ no n → refusesText n ≡ true
-unfolding takeLine takeHead takeRow
+unfolding stepBy headBy rowBy
 line-number empty line n e = head (after traceWord line) e
   where
     head : (o : Option (List ℕ)) → takeHead o ≡ no n → refusesText n ≡ true
@@ -122,7 +122,7 @@ line-number empty line n e = head (after traceWord line) e
 line-number (inside t) line n e = found (rowOf line) e
   where
     found : (r : Row) → takeRow t r ≡ no n → refusesText n ≡ true
-    found (row x ends) q = limit-number t x n (taken ends (tallied t x)) q
+    found (row x ends) q = limit-number t x n (read ends (tallied t x)) q
     found badRow q = fault-number n q
 line-number (whole t) line n e = fault-number n e
 
@@ -135,7 +135,7 @@ by-phase (Stopped n) t g s e = never (cc)
 
 -- a line leaves what is kept
 line-kept : (s : Taken) → KeptTaken s → (line : List ℕ) (a : Taken) → takeLine s line ≡ to a → KeptTaken a
-unfolding takeLine takeHead
+unfolding stepBy headBy
 line-kept empty g line a e = head (after traceWord line) e
   where
     head : (o : Option (List ℕ)) → takeHead o ≡ to a → KeptTaken a

@@ -15,10 +15,10 @@ use Rattle.reuse_rows.specs.Rows.{padded, putAt, placed}
 use Rattle.reuse_copies.proofs.Padding.{padded-wide}
 use Rattle.reuse_copies.proofs.Puts.{placed-fits}
 use Rattle.texts.specs.Lines.{at, stopped, lineCount}
-use Rattle.texts.specs.Logs.{longestLine}
+use Rattle.texts.specs.Logs.{longestLine, empty, inside, whole}
 use Rattle.texts.proofs.Tests.{never}
 use Rattle.listing_texts.specs.Tallies.{Tally, noReads}
-use Rattle.listing_texts.specs.Feeding.{empty, inside, whole, State, takePiece, stateBy, unnumbered}
+use Rattle.listing_texts.specs.Feeding.{State, takePiece, stateBy, unnumbered}
 use Rattle.listing_texts.proofs.Unnumbered.{stay}
 use Rattle.listing_tally.specs.Rows.{Tallied, tallyIn, takenBy}
 use Rattle.listing_tally.specs.declared.Phase.{Phase}

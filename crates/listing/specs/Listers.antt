@@ -5,9 +5,9 @@ use mathlib.Core.Bool.{Bool, cond, not, _&&_}
 use lib.ListN.{length, take, replicate}
 use Rattle.reuse_rows.specs.Rows.{putAt, padded}
 use Rattle.texts.specs.Lines.{at, stopped}
-use Rattle.texts.specs.Logs.{longestLine}
+use Rattle.texts.specs.Logs.{longestLine, empty, inside, whole}
 use Rattle.listing_texts.specs.Tallies.{Tally, noReads}
-use Rattle.listing_texts.specs.Feeding.{empty, inside, whole, State, takePiece, stateBy}
+use Rattle.listing_texts.specs.Feeding.{State, takePiece, stateBy}
 use Rattle.listing_tally.specs.Rows.{tallyIn, takenBy}
 use Rattle.listing_tally.specs.declared.Phase.{Phase}
 use Rattle.listing_tally.specs.declared.Phase.the-variants.{Empty, Inside, Whole, Stopped}

@@ -10,7 +10,7 @@ use borrow.Author.Tests.{le-leb}
 use Rattle.reuse.specs.Lists.{distinct, sum}
 use Rattle.reuse.proofs.Lists.{by-test}
 use Rattle.texts.specs.Words.{after}
-use Rattle.texts.specs.Logs.{Row, row, badRow, rowOf, traceWord, longestLine}
+use Rattle.texts.specs.Logs.{Row, row, badRow, rowOf, traceWord, longestLine, rowBy, headBy, stepBy}
 use Rattle.listing_texts.specs.Feeding.{takeRow, takeHead, takeLine}
 use Rattle.listing_lines.specs.Forms.{rowFound, headFound}
 use Rattle.listing_tally.specs.declared.Phase.{Phase}
@@ -36,7 +36,7 @@ module _ (reads extents : ℕ) (stack counts : List ℕ) (g : Tallied reads exte
   head-law : (o : Option (List ℕ)) →
       let p = headTaken reads extents (headFound o) in
       (takenIn p stack counts ≡ takeHead o) × Tallied (p .reads) (p .extents) stack counts
-  unfolding takeHead
+  unfolding headBy
   head-law none = (refl, g)
   head-law (some []) = (refl, none-tallied)
   head-law (some (x ∷ [])) = by-test (eqb x 41) (λ e. rw e (refl, none-tallied)) (λ e. rw e (refl, g))
@@ -47,7 +47,7 @@ module _ (reads extents : ℕ) (stack counts : List ℕ) (g : Tallied reads exte
       let s = rowTaken reads extents stack counts (rowFound l) in
       (takenIn (s .progress) (s .stack) (s .counts) ≡ takeRow (tallyIn reads extents stack counts) l) × Tallied (s .progress .reads) (s .progress .extents) (s .stack) (s .counts)
   row-law (row x ends) = read-law reads extents stack counts g x ends
-  row-law badRow = unfold takeRow in (refl, g)
+  row-law badRow = unfold rowBy in (refl, g)
 
   module _ (line : List ℕ) where
     -- what the line does to the rows, it does to the text, and they hold a tally
@@ -58,7 +58,7 @@ module _ (reads extents : ℕ) (stack counts : List ℕ) (g : Tallied reads exte
 
     -- by how far the text is
     by-phase : (phase : Phase) → Takes phase (lineTaken reads extents stack counts phase line)
-    unfolding takeLine lineTaken
+    unfolding stepBy lineTaken
     by-phase Empty = head-law (after traceWord line)
     by-phase Inside = row-law (rowOf line)
     by-phase Whole = (refl, g)

@@ -23,10 +23,10 @@ use Rattle.reuse.proofs.Sums.{sum-more, at-le-sum}
 use Rattle.reuse_engine.proofs.Engine.{place-depth, place-range, place-cold, place-room, place-full, place-counts, touched-known, touched-new}
 use Rattle.texts.specs.Limits.{maxExtent}
 use Rattle.texts.specs.Lines.{to, no, unless}
-use Rattle.texts.specs.Logs.{row}
+use Rattle.texts.specs.Logs.{row, read, rowBy}
 use Rattle.texts.proofs.Tests.{never}
 use Rattle.listing_texts.specs.Tallies.{Tally, tallied, overTally}
-use Rattle.listing_texts.specs.Feeding.{taken, takeRow}
+use Rattle.listing_texts.specs.Feeding.{takeRow}
 use Rattle.listing_tally.specs.Rows.{tallyIn, Tallied, takenBy, takenIn}
 use Rattle.listing_tally.specs.Standings.{Standing, readAt, readTaken}
 use Rattle.reuse_rows.specs.Rows.{oneMore}
@@ -43,7 +43,7 @@ depth-mem : (x d : ℕ) (s : List ℕ) → depth s x ≡ at d → mem x s ≡ tr
 depth-mem x d s e = by-test (mem x s) (λ m. m) (λ m. let q = sym (depth-absent x s m) ∙ e in never (cc))
 
 -- a text that goes on or ends, with its tally
-gone-taken : (ends : Bool) (t : Tally) → takenBy (cond ends Whole Inside) t ≡ to (taken ends t)
+gone-taken : (ends : Bool) (t : Tally) → takenBy (cond ends Whole Inside) t ≡ to (read ends t)
 gone-taken true t = refl
 gone-taken false t = refl
 
@@ -53,9 +53,9 @@ module _ (reads extents : ℕ) (stack counts : List ℕ) (g : Tallied reads exte
   before = tallyIn reads extents stack counts
 
   -- by the limit that is broken
-  by-limit : (n : ℕ) → overTally before x ≡ n → takeRow before (row x ends) ≡ unless n (to (taken ends (tallied before x)))
-  unfolding takeRow
-  by-limit n e = ap (λ (k : ℕ). unless k (to (taken ends (tallied before x)))) e
+  by-limit : (n : ℕ) → overTally before x ≡ n → takeRow before (row x ends) ≡ unless n (to (read ends (tallied before x)))
+  unfolding rowBy
+  by-limit n e = ap (λ (k : ℕ). unless k (to (read ends (tallied before x)))) e
 
   -- what is done to the rows is done to the tally, and they hold a tally
   abbrev Takes : Standing → Type 0
@@ -120,11 +120,11 @@ module _ (reads extents : ℕ) (stack counts : List ℕ) (g : Tallied reads exte
         new-tally = rw (place-cold stack extents x fits e, new-stack, new-counts, add-one reads)
 
         -- the read is taken
-        row-new : to (taken ends (tallyIn (reads + 1) (extents + 1) stack-new counts-new)) ≡ takeRow before (row x ends)
+        row-new : to (read ends (tallyIn (reads + 1) (extents + 1) stack-new counts-new)) ≡ takeRow before (row x ends)
         unfolding unless
         row-new =
             sym (by-limit 0 (rw (le-ltb maxExtent x small, lt-leb maxReads reads room, cold-absent x (take extents stack) (place-cold stack extents x fits e), lt-leb maxExtents (length (take extents stack)) (omega (arith, stacked, new-room))))
-            ∙ ap (λ (t : Tally). to (taken ends t)) new-tally)
+            ∙ ap (λ (t : Tally). to (read ends t)) new-tally)
 
         -- and the rows hold a tally
         tallied-new : Tallied (reads + 1) (extents + 1) stack-new counts-new
@@ -180,11 +180,11 @@ module _ (reads extents : ℕ) (stack counts : List ℕ) (g : Tallied reads exte
         known-tally = rw (place-depth stack extents x fits d e, known-stack, known-counts, add-one reads)
 
         -- the read is taken
-        row-known : to (taken ends (tallyIn (reads + 1) extents stack-known counts-known)) ≡ takeRow before (row x ends)
+        row-known : to (read ends (tallyIn (reads + 1) extents stack-known counts-known)) ≡ takeRow before (row x ends)
         unfolding unless
         row-known =
             sym (by-limit 0 (rw (le-ltb maxExtent x small, lt-leb maxReads reads room, depth-mem x d (take extents stack) (place-depth stack extents x fits d e)))
-            ∙ ap (λ (t : Tally). to (taken ends t)) known-tally)
+            ∙ ap (λ (t : Tally). to (read ends t)) known-tally)
 
         -- and the rows hold a tally
         tallied-known : Tallied (reads + 1) extents stack-known counts-known

@@ -8,7 +8,8 @@ use Rattle.reuse.specs.Limits.{maxReads, maxExtents}
 use Rattle.reuse.specs.Lists.{distinct, sum}
 use Rattle.texts.specs.Lines.{Answer, to, no}
 use Rattle.listing_texts.specs.Tallies.{Tally}
-use Rattle.listing_texts.specs.Feeding.{Taken, empty, inside, whole, takeLine}
+use Rattle.texts.specs.Logs.{empty, inside, whole}
+use Rattle.listing_texts.specs.Feeding.{Taken, takeLine}
 use Rattle.listing_tally.specs.declared.Phase.{Phase}
 use Rattle.listing_tally.specs.declared.Phase.the-variants.{Empty, Inside, Whole, Stopped}
 use Rattle.listing_tally.specs.declared.Progress.{Progress}

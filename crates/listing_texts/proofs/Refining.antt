@@ -13,11 +13,11 @@ use Rattle.reuse.proofs.Lists.{by-test}
 use Rattle.reuse.proofs.Words.{length-histogram}
 use Rattle.texts.specs.Words.{after}
 use Rattle.texts.specs.Lines.{Answer, to, no, Fed, at, stopped, got, unless, lineDone, byte, feedBy, finishBy}
-use Rattle.texts.specs.Logs.{traceWord, Row, row, badRow, rowOf, Logged, empty, inside, whole, overRead, read, rowBy, headBy, logStep, logRoom, logFeed, start, feed, finish, logOf}
+use Rattle.texts.specs.Logs.{traceWord, Row, row, badRow, rowOf, Logged, empty, inside, whole, overRead, read, rowBy, headBy, logRow, logStep, logRoom, logFeed, start, feed, finish, logOf, stepBy}
 use Rattle.texts.proofs.Feeding.{feed-append}
 use Rattle.listing_texts.specs.Tallies.{tallied, missesBy, tallyOf}
 use Rattle.listing_texts.specs.Listings.{atRows, listed, sizesOf, outputOf, listingOf}
-use Rattle.listing_texts.specs.Feeding.{Taken, taken, takeRow, takeHead, takeLine, State, takePiece, printedBy, printedAt, verdictBy, verdictAt}
+use Rattle.listing_texts.specs.Feeding.{Taken, takeRow, takeHead, takeLine, State, takePiece, printedBy, printedAt, verdictBy, verdictAt}
 use Rattle.listing_texts.proofs.Tallies.{tally-none, tally-more, over-same, misses-same}
 
 -- an answer's state, by a map
@@ -62,44 +62,44 @@ module _ {S T : Type 0} (step : S → List ℕ → Answer S) (step′ : T → Li
   feed-map (x ∷ l) s = rw (byte-map s x) (feed-map l (byte step room s x))
 
 -- what the tallies hold of what the traces hold
-abbrev pub takenOf : Logged → Taken
-takenOf empty = Taken.empty
-takenOf (inside t) = Taken.inside (tallyOf t)
-takenOf (whole t) = Taken.whole (tallyOf t)
+abbrev pub takenOf : Logged (List ℕ) → Taken
+takenOf empty = empty
+takenOf (inside t) = inside (tallyOf t)
+takenOf (whole t) = whole (tallyOf t)
 
 -- the same of a text taken so far
-abbrev pub fedMap : Fed Logged → State
+abbrev pub fedMap : Fed (Logged (List ℕ)) → State
 fedMap f = stateMap takenOf f
 
 -- the reads with one more, ended or not
-taken-more : (ends : Bool) (t : List ℕ) (x : ℕ) → to (taken ends (tallied (tallyOf t) x)) ≡ answerMap takenOf (to (read ends (t ++ (x ∷ []))))
+taken-more : (ends : Bool) (t : List ℕ) (x : ℕ) → to (read ends (tallied (tallyOf t) x)) ≡ answerMap takenOf (to (read ends (t ++ (x ∷ []))))
 taken-more true t x = rw (tally-more t x)
 taken-more false t x = rw (tally-more t x)
 
 -- a read's line does the same to both
-row-refines : (t : List ℕ) (r : Row) → takeRow (tallyOf t) r ≡ answerMap takenOf (rowBy true t r)
-unfolding takeRow rowBy
+row-refines : (t : List ℕ) (r : Row) → takeRow (tallyOf t) r ≡ answerMap takenOf (logRow true t r)
+unfolding rowBy
 row-refines t badRow = refl
 row-refines t (row x ends) =
     rw (over-same t x, taken-more ends t x) (unless-map takenOf (overRead t x) (to (read ends (t ++ (x ∷ [])))))
 
 -- so does the first line
-head-refines : (o : Option (List ℕ)) → takeHead o ≡ answerMap takenOf (headBy o)
-unfolding takeHead headBy
+head-refines : (o : Option (List ℕ)) → takeHead o ≡ answerMap takenOf (headBy [] o)
+unfolding headBy
 head-refines none = refl
 head-refines (some []) = rw tally-none
 head-refines (some (x ∷ [])) = by-test (eqb x 41) (λ e. rw (e, tally-none)) (λ e. rw e)
 head-refines (some (x ∷ y ∷ l)) = refl
 
 -- so does every line
-pub line-refines : (s : Logged) (line : List ℕ) → takeLine (takenOf s) line ≡ answerMap takenOf (logStep true s line)
-unfolding takeLine logStep
+pub line-refines : (s : Logged (List ℕ)) (line : List ℕ) → takeLine (takenOf s) line ≡ answerMap takenOf (logStep true s line)
+unfolding stepBy
 line-refines empty line = head-refines (after traceWord line)
 line-refines (inside t) line = row-refines t (rowOf line)
 line-refines (whole t) line = refl
 
 -- so does every piece of a text
-pub piece-refines : (f : Fed Logged) (l : List ℕ) → takePiece (fedMap f) l ≡ fedMap (feed f l)
+pub piece-refines : (f : Fed (Logged (List ℕ))) (l : List ℕ) → takePiece (fedMap f) l ≡ fedMap (feed f l)
 unfolding takePiece feed logFeed
 piece-refines f l = feed-map (logStep true) takeLine logRoom takenOf line-refines l f
 
@@ -128,7 +128,7 @@ tally-prints t =
     (listed-same (length t) (length (firsts t)) (missesBy (histogram t)) (λ c. missesAt c (reuses [] t)) (misses-same t))
 
 -- the end prints the same for both
-pub print-refines : (f : Fed Logged) → printedAt (fedMap f) ≡ outputOf (finish f)
+pub print-refines : (f : Fed (Logged (List ℕ))) → printedAt (fedMap f) ≡ outputOf (finish f)
 unfolding printedAt finish finishBy
 print-refines (at k [] empty) = refl
 print-refines (at k [] (inside t)) = refl
@@ -137,12 +137,12 @@ print-refines (at k (x ∷ held) s) = refl
 print-refines (stopped k n) = refl
 
 -- a whole text, taken by tallies, prints its listing
-pub listing-whole : (text : List ℕ) → printedAt (takePiece (at 0 [] Taken.empty) text) ≡ listingOf text
+pub listing-whole : (text : List ℕ) → printedAt (takePiece (at 0 [] empty) text) ≡ listingOf text
 unfolding listingOf logOf
 listing-whole text = rw (piece-refines start text) (print-refines (feed start text))
 
 -- the end gives the same verdict for both
-pub verdict-refines : (f : Fed Logged) → verdictAt (fedMap f) ≡ verdictBy (finish f)
+pub verdict-refines : (f : Fed (Logged (List ℕ))) → verdictAt (fedMap f) ≡ verdictBy (finish f)
 unfolding verdictAt finish finishBy
 verdict-refines (at k [] empty) = refl
 verdict-refines (at k [] (inside t)) = refl
@@ -151,6 +151,6 @@ verdict-refines (at k (x ∷ held) s) = refl
 verdict-refines (stopped k n) = refl
 
 -- a whole text, taken by tallies, is listed or refused as it is read
-pub verdict-text : (text : List ℕ) → verdictAt (takePiece (at 0 [] Taken.empty) text) ≡ verdictBy (logOf text)
+pub verdict-text : (text : List ℕ) → verdictAt (takePiece (at 0 [] empty) text) ≡ verdictBy (logOf text)
 unfolding logOf
 verdict-text text = rw (piece-refines start text) (verdict-refines (feed start text))

@@ -8,11 +8,11 @@ use lib.Dec.{eqb}
 use lib.ListN.{length, length-append}
 use borrow.Author.Tests.{lt-ltb, le-ltb}
 use Rattle.texts.specs.Lines.{Answer, to, no, at, stopped, Read, refused, byte, feedBy, finishBy, lineDone, lineCount}
-use Rattle.texts.specs.Logs.{longestLine, logRoom}
+use Rattle.texts.specs.Logs.{longestLine, logRoom, empty, inside, whole}
 use Rattle.texts.proofs.Tests.{never}
 use Rattle.texts.proofs.Feeding.{count-end, count-append, feed-append, absorb, feed-rest, by-byte}
 use Rattle.listing_texts.specs.Tallies.{Tally}
-use Rattle.listing_texts.specs.Feeding.{Taken, empty, inside, whole, takeLine, State, takePiece, stateBy, unnumbered, takenWhole, printedBy, printedAt, verdictBy, verdictAt}
+use Rattle.listing_texts.specs.Feeding.{Taken, takeLine, State, takePiece, stateBy, unnumbered, takenWhole, printedBy, printedAt, verdictBy, verdictAt}
 
 -- the lines before do not matter
 pub shift : (l : List ℕ) (k j : ℕ) (held : List ℕ) (s : Taken) → unnumbered (takePiece (at k held s) l) ≡ unnumbered (takePiece (at j held s) l)

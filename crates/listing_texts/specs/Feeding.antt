@@ -7,39 +7,27 @@ use lib.Dec.{eqb}
 use lib.ListN.{length}
 use Rattle.texts.specs.Words.{after}
 use Rattle.texts.specs.Lines.{Answer, to, no, Fed, at, stopped, Read, got, refused, unless, feedBy, finishBy}
-use Rattle.texts.specs.Logs.{traceWord, Row, row, badRow, rowOf, logRoom}
+use Rattle.texts.specs.Logs.{Row, Logged, empty, inside, whole, rowBy, headBy, stepBy, logRoom}
 use Rattle.listing_texts.specs.Tallies.{Tally, noReads, tallied, overTally, missesBy}
 use Rattle.listing_texts.specs.Listings.{listed, refusedText}
 use Rattle.listing_texts.specs.declared.Verdict.{Verdict}
 use Rattle.listing_texts.specs.declared.Verdict.the-variants.{Listed, Refused}
 
--- nothing read yet; the reads so far; the whole trace
-pub data Taken : Type 0 where
-  empty : Taken
-  inside : Tally → Taken
-  whole : Tally → Taken
-
--- the reads so far, or the whole trace where the text ends
-abbrev pub taken : Bool → Tally → Taken
-taken ends t = cond ends (whole t) (inside t)
+-- nothing read yet; the tally of the reads so far; that of the whole trace
+abbrev pub Taken : Type 0
+Taken = Logged Tally
 
 -- what a read's line does
-unfoldable pub takeRow : Tally → Row → Answer Taken
-takeRow t badRow = no 1
-takeRow t (row x ends) = unless (overTally t x) (to (taken ends (tallied t x)))
+abbrev pub takeRow : Tally → Row → Answer Taken
+takeRow = rowBy overTally tallied
 
--- the first line: `(trace`, or `(trace)`
-unfoldable pub takeHead : Option (List ℕ) → Answer Taken
-takeHead none = no 1
-takeHead (some []) = to (inside noReads)
-takeHead (some (x ∷ [])) = cond (eqb x 41) (to (whole noReads)) (no 1)
-takeHead (some (x ∷ y ∷ l)) = no 1
+-- the first line
+abbrev pub takeHead : Option (List ℕ) → Answer Taken
+takeHead = headBy noReads
 
--- what a line does: nothing may follow the whole trace
-unfoldable pub takeLine : Taken → List ℕ → Answer Taken
-takeLine empty line = takeHead (after traceWord line)
-takeLine (inside t) line = takeRow t (rowOf line)
-takeLine (whole t) line = no 1
+-- what a line does
+abbrev pub takeLine : Taken → List ℕ → Answer Taken
+takeLine = stepBy noReads overTally tallied
 
 -- a text taken so far
 abbrev pub State : Type 0

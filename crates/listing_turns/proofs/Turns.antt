@@ -12,13 +12,13 @@ use Rattle.reuse_rows.specs.Rows.{placed}
 use Rattle.reuse.proofs.Lists.{both, by-test}
 use Rattle.reuse_copies.proofs.Puts.{put-length, placed-fits}
 use Rattle.texts.specs.Lines.{Answer, to, no, at, stopped, lineCount}
-use Rattle.texts.specs.Logs.{longestLine}
+use Rattle.texts.specs.Logs.{longestLine, empty, inside, whole}
 use Rattle.texts.proofs.Tests.{never}
 use Rattle.texts.proofs.Positions.{gone}
 use Rattle.texts_pieces.specs.Pieces.{lineLength}
 use Rattle.texts_pieces.proofs.Lengths.{length-within, length-line, length-ends}
 use Rattle.listing_texts.specs.Tallies.{Tally}
-use Rattle.listing_texts.specs.Feeding.{Taken, empty, inside, whole, State, takePiece, stateBy, unnumbered}
+use Rattle.listing_texts.specs.Feeding.{Taken, State, takePiece, stateBy, unnumbered}
 use Rattle.listing_texts.proofs.Unnumbered.{take-none, stay, kept, ended, too-long}
 use Rattle.listing_tally.specs.Rows.{Tallied, tallyIn, takenBy, takenIn, andThen}
 use Rattle.listing_tally.specs.Standings.{Standing, standsAt, refused, endTaken}

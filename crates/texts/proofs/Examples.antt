@@ -15,7 +15,7 @@ use Rattle.texts.specs.Lines.{got, refused, unless, lineDone, byte, feed
 use Rattle.texts.specs.Plans.{Plan, seg, join, last, joinText, formText, partsText, textOf, depth, partsDepth, reads, partsReads}
 use Rattle.texts.specs.PlanTexts.{lineOf, addParts, put, lineBy, planStep, planFeed, planLines, planOf}
 use Rattle.reuse.specs.Lists.{mem, remove, firsts}
-use Rattle.texts.specs.Logs.{logText, readsText, rowOf, overRead, rowBy, headBy, logStep, logFeed, feed, finish, logOf}
+use Rattle.texts.specs.Logs.{logText, readsText, rowOf, overRead, rowBy, logRow, headBy, logStep, stepBy, logFeed, feed, finish, logOf}
 
 -- the paper's plan
 abbrev paperPlan : Plan
@@ -144,7 +144,7 @@ pub logs-read :
     × (logOf (bytes "(trace)\n") ≡ got [])
     -- the largest extent
     × (logOf (bytes "(trace\n (read 4294967295))\n") ≡ got (4_294_967_295 ∷ []))
-unfolding logOf finish feed logFeed logStep headBy rowBy rowOf mem remove firsts unless lineDone byte feedBy finishBy after wordAt closesOf endingOf numberOf numberFrom
+unfolding logOf finish feed logFeed stepBy headBy rowBy rowOf mem remove firsts unless lineDone byte feedBy finishBy after wordAt closesOf endingOf numberOf numberFrom
 logs-read = (refl, refl, refl)
 
 -- log texts that are refused
@@ -163,7 +163,7 @@ pub logs-refused :
     × (logOf (bytes "(trace\n") ≡ refused 2 1)
     -- 1: a line longer than any may be, before it ends
     × (logOf (bytes "(trace\n (read 7                    ") ≡ refused 2 1)
-unfolding logOf finish feed logFeed logStep headBy rowBy rowOf mem remove firsts unless lineDone byte feedBy finishBy after wordAt closesOf endingOf numberOf numberFrom
+unfolding logOf finish feed logFeed stepBy headBy rowBy rowOf mem remove firsts unless lineDone byte feedBy finishBy after wordAt closesOf endingOf numberOf numberFrom
 logs-refused = (refl, refl, refl, refl, refl, refl, refl)
 
 -- the limit of different extents that one read more breaks

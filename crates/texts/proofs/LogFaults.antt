@@ -6,7 +6,7 @@ use mathlib.Core.List.{List, [], _∷_, _++_, append-nil}
 use mathlib.Core.Bool.{Bool, true, false}
 use Rattle.texts.specs.Digits.{tooLong}
 use Rattle.texts.specs.Lines.{to, no, refused, unless, firstLines, lineCount, Faulty}
-use Rattle.texts.specs.Logs.{rowText, readsText, logText, Row, row, badRow, rowOf, Logged, empty, inside, whole, overRead, read, rowBy, logStep, logRoom, logFeed, feed, logDone, finish, logOf, Ruled}
+use Rattle.texts.specs.Logs.{rowText, readsText, logText, Row, row, badRow, rowOf, Logged, empty, inside, whole, overRead, read, rowBy, logRow, logStep, stepBy, logRoom, logFeed, feed, logDone, finish, logOf, Ruled}
 use Rattle.texts.specs.LogFaults.{soFar, Kept, Broken, bigExtent, manyReads, manyExtents, LogOver}
 use Rattle.texts.proofs.Tests.{never}
 use Rattle.texts.proofs.Faults.{Reads, unless-to, unless-one, unless-no, faulty, before, over}
@@ -15,13 +15,13 @@ use Rattle.texts.proofs.LogRuns.{rule-runs}
 use Rattle.texts.proofs.LogSound.{by-head, by-row, whole-ends, whole-text, log-adds, below-more, by-over, by-read, log-keeps}
 
 -- a line that goes on within the limits goes on without them
-same : (s : Logged) (line : List ℕ) (s′ : Logged) → logStep true s line ≡ to s′ → logStep false s line ≡ to s′
-unfolding logStep rowBy unless
+same : (s : Logged (List ℕ)) (line : List ℕ) (s′ : Logged (List ℕ)) → logStep true s line ≡ to s′ → logStep false s line ≡ to s′
+unfolding stepBy rowBy unless
 same empty line s′ e = e
 same (whole t) line s′ e = e
 same (inside t) line s′ e = by-line (rowOf line) e
   where
-    by-line : (r : Row) → rowBy true t r ≡ to s′ → rowBy false t r ≡ to s′
+    by-line : (r : Row) → logRow true t r ≡ to s′ → logRow false t r ≡ to s′
     by-line badRow p = p
     by-line (row x ends) p = unless-to (overRead t x) (to (read ends (t ++ (x ∷ [])))) s′ p .1
 
@@ -35,24 +35,24 @@ read-not-one t x e =
     (λ a b c q. let z : 0 ≡ 1 = sym q ∙ e in omega arith)
 
 -- a line refused with 1 is so without the limits
-one : (s : Logged) (line : List ℕ) → logStep true s line ≡ no 1 → logStep false s line ≡ no 1
-unfolding logStep rowBy unless
+one : (s : Logged (List ℕ)) (line : List ℕ) → logStep true s line ≡ no 1 → logStep false s line ≡ no 1
+unfolding stepBy rowBy unless
 one empty line e = e
 one (whole t) line e = e
 one (inside t) line e = by-line (rowOf line) e
   where
-    by-line : (r : Row) → rowBy true t r ≡ no 1 → rowBy false t r ≡ no 1
+    by-line : (r : Row) → logRow true t r ≡ no 1 → logRow false t r ≡ no 1
     by-line badRow p = p
     by-line (row x ends) p = unless-one (overRead t x) (to (read ends (t ++ (x ∷ [])))) (read-not-one t x) p
 
 -- what a state has read is of the rule
-abbrev RuledState : Logged → Type 0
+abbrev RuledState : Logged (List ℕ) → Type 0
 RuledState empty = Unit
 RuledState (inside t) = Ruled t
 RuledState (whole t) = Ruled t
 
 -- each line keeps the rule
-rule-keeps : (limits : Bool) (s : Logged) (line : List ℕ) (s′ : Logged) → RuledState s → logStep limits s line ≡ to s′ → RuledState s′
+rule-keeps : (limits : Bool) (s : Logged (List ℕ)) (line : List ℕ) (s′ : Logged (List ℕ)) → RuledState s → logStep limits s line ≡ to s′ → RuledState s′
 rule-keeps limits (whole t) line s′ h e = whole-ends limits t line s′ e
 rule-keeps limits empty line s′ h e =
     by-head limits line (to s′) e
@@ -64,13 +64,13 @@ rule-keeps limits (inside t) line s′ h e =
     (λ x ends l b o z. let w = below-more tooLong t x h b in subst RuledState z (by-read RuledState (t ++ (x ∷ [])) ends w w))
 
 -- every state goes on to a text of the rule
-viable : (s : Logged) → RuledState s → (t : List ℕ) × (b : List ℕ) × Ruled t × (logText t ≡ soFar s ++ b)
+viable : (s : Logged (List ℕ)) → RuledState s → (t : List ℕ) × (b : List ℕ) × Ruled t × (logText t ≡ soFar s ++ b)
 viable empty h = ([], logText [], tt, refl)
 viable (inside t) h = (t ++ (0 ∷ []), readsText 0 [], below-more tooLong t 0 h (omega arith), whole-text t 0)
 viable (whole t) h = (t, [], h, sym (append-nil (logText t)))
 
 -- a state keeps the limits and the rule
-abbrev Both : Logged → Type 0
+abbrev Both : Logged (List ℕ) → Type 0
 Both s = Kept s × RuledState s
 
 -- the text so far, the limits and the rule
@@ -92,7 +92,7 @@ log-faulty text k e =
     (λ s b. viable s (b .1)) text k e
 
 -- whatever the refusal, the lines before it were read and keep the limits
-pub log-before : (text : List ℕ) (k n : ℕ) → logOf text ≡ refused k n → (s : Logged) × Kept s × (firstLines (pred k) text ≡ soFar s)
+pub log-before : (text : List ℕ) (k n : ℕ) → logOf text ≡ refused k n → (s : Logged (List ℕ)) × Kept s × (firstLines (pred k) text ≡ soFar s)
 unfolding logOf finish feed logFeed
 log-before text k n e = let b = before logRoom logDone both-reads text k n e in (b .1, b .2 .0, b .3)
 
@@ -107,11 +107,11 @@ module _ (t line : List ℕ) (m : ℕ) where
       (λ a b c q. let u : 0 ≡ m = sym q ∙ e in absurd (z (sym u)))
 
   -- a line refused by a limit broke one, and goes on without it
-  passes : (m ≡ 1 → ⊥) → logStep true (inside t) line ≡ no m → Broken t line m × (s : Logged) × (logStep false (inside t) line ≡ to s)
-  unfolding logStep rowBy unless
+  passes : (m ≡ 1 → ⊥) → logStep true (inside t) line ≡ no m → Broken t line m × (s : Logged (List ℕ)) × (logStep false (inside t) line ≡ to s)
+  unfolding stepBy rowBy unless
   passes other e = by-line (rowOf line) refl e
     where
-      by-line : (r : Row) → rowOf line ≡ r → rowBy true t r ≡ no m → Broken t line m × (s : Logged) × (rowBy false t r ≡ to s)
+      by-line : (r : Row) → rowOf line ≡ r → logRow true t r ≡ no m → Broken t line m × (s : Logged (List ℕ)) × (logRow false t r ≡ to s)
       by-line badRow q p = let u : 1 ≡ m = cc in absurd (other (sym u))
       by-line (row x ends) q p =
           let u = unless-no (overRead t x) (to (read ends (t ++ (x ∷ [])))) m (λ z. never (cc)) p in
@@ -119,12 +119,12 @@ module _ (t line : List ℕ) (m : ℕ) where
 
 -- a refusal other than 1 is a broken limit's
 pub log-over : (text : List ℕ) (k n : ℕ) → logOf text ≡ refused k n → (n ≡ 1 → ⊥) → LogOver text k n
-unfolding logOf finish feed logFeed logStep
+unfolding logOf finish feed logFeed stepBy
 log-over text k n e other =
     let r = over logRoom logDone both-reads text k n other e in
     by-state (r .state) (r .line) (r .rest) (r .earlier) (r .refuses) (r .one-line) (r .place) (r .text-is)
   where
-    by-state : (s : Logged) (line rest : List ℕ) → Both s → logStep true s line ≡ no n → lineCount line ≡ 0 → suc (lineCount (soFar s)) ≡ k → text ≡ soFar s ++ (line ++ (10 ∷ rest)) → LogOver text k n
+    by-state : (s : Logged (List ℕ)) (line rest : List ℕ) → Both s → logStep true s line ≡ no n → lineCount line ≡ 0 → suc (lineCount (soFar s)) ≡ k → text ≡ soFar s ++ (line ++ (10 ∷ rest)) → LogOver text k n
     by-state empty line rest h q c p x =
         by-head true line (no n) q (λ l r. never (cc)) (λ l r. never (cc)) (λ r. let u : 1 ≡ n = cc in absurd (other (sym u)))
     by-state (whole t) line rest h q c p x = let u : 1 ≡ n = cc in absurd (other (sym u))

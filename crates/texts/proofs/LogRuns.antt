@@ -12,7 +12,7 @@ use Rattle.texts.specs.Digits.{tooLong}
 use Rattle.texts.specs.Words.{wordAt, after}
 use Rattle.texts.specs.Lines.{Answer, to, at, got, counting, unless, lineDone, byte, feedBy, finishBy, lineCount}
 use Rattle.reuse.specs.Lists.{mem, firsts}
-use Rattle.texts.specs.Logs.{traceWord, rowText, readsText, logText, Logged, empty, inside, whole, overRead, read, rowBy, headBy, logStep, longestLine, logRoom, logFeed, State, start, feed, logDone, finish, logOf, Below, Ruled, Within}
+use Rattle.texts.specs.Logs.{traceWord, rowText, readsText, logText, Logged, empty, inside, whole, overRead, read, rowBy, logRow, headBy, logStep, stepBy, longestLine, logRoom, logFeed, State, start, feed, logDone, finish, logOf, Below, Ruled, Within}
 use Rattle.texts.proofs.Feeding.{feed-append, by-bytes, feed-line}
 use Rattle.reuse.proofs.Lists.{by-test, firsts-new, firsts-longer}
 use Rattle.texts.proofs.LogLines.{row-reads, row-count, row-length}
@@ -28,7 +28,7 @@ unfolding feed logFeed feedBy
 feed-byte s x = refl
 
 -- what is held of a line stays short
-pub held-short : (l : List ℕ) (k : ℕ) (held : List ℕ) (s : Logged) (j : ℕ) (rest : List ℕ) (s′ : Logged) → length held ≤ longestLine → feed (at k held s) l ≡ at j rest s′ → length rest ≤ longestLine
+pub held-short : (l : List ℕ) (k : ℕ) (held : List ℕ) (s : Logged (List ℕ)) (j : ℕ) (rest : List ℕ) (s′ : Logged (List ℕ)) → length held ≤ longestLine → feed (at k held s) l ≡ at j rest s′ → length rest ≤ longestLine
 unfolding feed logFeed
 held-short l k held s j rest s′ h e =
     by-bytes (logStep true) logRoom (λ l k held s. length held ≤ longestLine → length rest ≤ longestLine) j rest s′ (λ b. b)
@@ -43,7 +43,7 @@ Fits limits t (x ∷ xs) = (x < tooLong) × (counting limits (overRead t x) ≡ 
 
 module _ (limits : Bool) where
   -- a line that is ended, then the rest
-  log-line : (s : Logged) (k : ℕ) (line rest : List ℕ) → lineCount line ≡ 0 → length line ≤ longestLine
+  log-line : (s : Logged (List ℕ)) (k : ℕ) (line rest : List ℕ) → lineCount line ≡ 0 → length line ≤ longestLine
       → logFeed limits (at k [] s) (line ++ (10 ∷ rest)) ≡ logFeed limits (lineDone k (logStep limits s line)) rest
   unfolding logFeed
   log-line s k line rest h l = feed-line (logStep limits) logRoom line k s rest h (λ n g. lt-ltb n longestLine (omega arith))
@@ -51,11 +51,11 @@ module _ (limits : Bool) where
   -- a read's line
   row-line : (t : List ℕ) (k x : ℕ) (ends : Bool) (rest : List ℕ) → x < tooLong → counting limits (overRead t x) ≡ 0
       → logFeed limits (at k [] (inside t)) (rowText x ends ++ (10 ∷ rest)) ≡ logFeed limits (at (suc k) [] (read ends (t ++ (x ∷ [])))) rest
-  unfolding logStep rowBy unless lineDone
+  unfolding stepBy rowBy unless lineDone
   row-line t k x ends rest h g =
       log-line (inside t) k (rowText x ends) rest (row-count x ends) (row-length x ends h)
-      ∙ ap (λ (w : Answer Logged). logFeed limits (lineDone k w) rest)
-      (ap (rowBy limits t) (row-reads x ends h) ∙ ap (λ (z : ℕ). unless z (to (read ends (t ++ (x ∷ []))))) g)
+      ∙ ap (λ (w : Answer (Logged (List ℕ))). logFeed limits (lineDone k w) rest)
+      (ap (logRow limits t) (row-reads x ends h) ∙ ap (λ (z : ℕ). unless z (to (read ends (t ++ (x ∷ []))))) g)
 
   -- the reads' lines
   rows-run : (xs : List ℕ) (x : ℕ) (t : List ℕ) (k : ℕ) → Fits limits t (x ∷ xs) → (j : ℕ) × (logFeed limits (at k [] (inside t)) (readsText x xs) ≡ at j [] (whole (t ++ (x ∷ xs))))
@@ -71,7 +71,7 @@ module _ (limits : Bool) where
 
   -- the whole text
   text-runs : (t : List ℕ) → Fits limits [] t → (j : ℕ) × (logFeed limits start (logText t) ≡ at j [] (whole t))
-  unfolding logText lineDone logStep headBy after wordAt lineCount logFeed feedBy
+  unfolding logText lineDone stepBy headBy after wordAt lineCount logFeed feedBy
   text-runs [] h = (1, log-line empty 0 (traceWord ++ (41 ∷ [])) [] refl (omega arith))
   text-runs (x ∷ t) h = let r = rows-run t x [] 1 h in (r .0, log-line empty 0 traceWord (readsText x t) refl (omega arith) ∙ r .1)
 

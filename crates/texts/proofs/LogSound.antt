@@ -15,7 +15,7 @@ use Rattle.texts.specs.Digits.{tooLong}
 use Rattle.texts.specs.Words.{after}
 use Rattle.texts.specs.Lines.{Answer, to, no, got, counting}
 use Rattle.reuse.specs.Lists.{mem, firsts}
-use Rattle.texts.specs.Logs.{traceWord, rowText, readsText, logText, Row, row, badRow, rowOf, Logged, empty, inside, whole, overRead, read, rowBy, headBy, logStep, logRoom, logFeed, feed, logDone, finish, logOf, Below, Within}
+use Rattle.texts.specs.Logs.{traceWord, rowText, readsText, logText, Row, row, badRow, rowOf, Logged, empty, inside, whole, overRead, read, rowBy, logRow, headBy, logStep, stepBy, logRoom, logFeed, feed, logDone, finish, logOf, Below, Within}
 use Rattle.texts.specs.LogFaults.{rows, soFar, Kept}
 use Rattle.texts.proofs.Tests.{never}
 use Rattle.texts.proofs.Faults.{Reads, unless-to, content}
@@ -25,12 +25,12 @@ use Rattle.texts.proofs.LogLines.{row-sound}
 use Rattle.texts.proofs.LogRuns.{round-trip}
 
 -- a proof by what the first line is: `(trace`, `(trace)`, or refused with 1
-pub by-head : {G : Type 0} (limits : Bool) (line : List ℕ) (a : Answer Logged) → logStep limits empty line ≡ a
+pub by-head : {G : Type 0} (limits : Bool) (line : List ℕ) (a : Answer (Logged (List ℕ))) → logStep limits empty line ≡ a
     → (line ≡ traceWord → to (inside []) ≡ a → G) → (line ≡ traceWord ++ (41 ∷ []) → to (whole []) ≡ a → G) → (no 1 ≡ a → G) → G
-unfolding logStep headBy
+unfolding stepBy headBy
 by-head {G} limits line a e opens empties bads = by-word (after traceWord line) refl e
   where
-    by-word : (o : Option (List ℕ)) → after traceWord line ≡ o → headBy o ≡ a → G
+    by-word : (o : Option (List ℕ)) → after traceWord line ≡ o → headBy [] o ≡ a → G
     by-word none q p = bads p
     by-word (some []) q p = opens (after-sound traceWord line [] q) p
     by-word (some (x ∷ [])) q p =
@@ -40,12 +40,12 @@ by-head {G} limits line a e opens empties bads = by-word (after traceWord line) 
     by-word (some (x ∷ y ∷ l)) q p = bads p
 
 -- a line that goes on after reads is a read's
-pub by-row : {G : Type 0} (limits : Bool) (t line : List ℕ) (s′ : Logged) → logStep limits (inside t) line ≡ to s′
+pub by-row : {G : Type 0} (limits : Bool) (t line : List ℕ) (s′ : Logged (List ℕ)) → logStep limits (inside t) line ≡ to s′
     → ((x : ℕ) (ends : Bool) → line ≡ rowText x ends → x < tooLong → counting limits (overRead t x) ≡ 0 → read ends (t ++ (x ∷ [])) ≡ s′ → G) → G
-unfolding logStep rowBy
+unfolding stepBy rowBy
 by-row {G} limits t line s′ e a = by-line (rowOf line) refl e
   where
-    by-line : (r : Row) → rowOf line ≡ r → rowBy limits t r ≡ to s′ → G
+    by-line : (r : Row) → rowOf line ≡ r → logRow limits t r ≡ to s′ → G
     by-line badRow q p = never (cc)
     by-line (row x ends) q p =
         let u = unless-to (counting limits (overRead t x)) (to (read ends (t ++ (x ∷ [])))) s′ p in
@@ -54,8 +54,8 @@ by-row {G} limits t line s′ e a = by-line (rowOf line) refl e
         a x ends (s .0) (s .1) (u .0) (cc)
 
 -- nothing goes on after the whole trace
-pub whole-ends : {G : Type 0} (limits : Bool) (t line : List ℕ) (s′ : Logged) → logStep limits (whole t) line ≡ to s′ → G
-unfolding logStep
+pub whole-ends : {G : Type 0} (limits : Bool) (t line : List ℕ) (s′ : Logged (List ℕ)) → logStep limits (whole t) line ≡ to s′ → G
+unfolding stepBy
 whole-ends limits t line s′ e = never (cc)
 
 -- one read more
@@ -86,7 +86,7 @@ read-adds t x false = rw (rows-more t x)
 read-adds t x true = sym (whole-text t x)
 
 -- each line adds itself
-pub log-adds : (limits : Bool) (s : Logged) (line : List ℕ) (s′ : Logged) → logStep limits s line ≡ to s′ → soFar s ++ (line ++ (10 ∷ [])) ≡ soFar s′
+pub log-adds : (limits : Bool) (s : Logged (List ℕ)) (line : List ℕ) (s′ : Logged (List ℕ)) → logStep limits s line ≡ to s′ → soFar s ++ (line ++ (10 ∷ [])) ≡ soFar s′
 unfolding logText
 log-adds limits (whole t) line s′ e = whole-ends limits t line s′ e
 log-adds limits empty line s′ e =
@@ -142,7 +142,7 @@ within-more t x w e =
     })
 
 -- a property of reads so far and of a whole trace, by whether the text ends
-pub by-read : (P : Logged → Type 0) (t : List ℕ) (ends : Bool) → P (inside t) → P (whole t) → P (read ends t)
+pub by-read : (P : Logged (List ℕ) → Type 0) (t : List ℕ) (ends : Bool) → P (inside t) → P (whole t) → P (read ends t)
 by-read P t false a b = a
 by-read P t true a b = b
 
@@ -152,7 +152,7 @@ unfolding firsts
 none-within = record { extents = tt; reads = omega arith; kinds = omega arith }
 
 -- each line keeps the limits
-pub log-keeps : (s : Logged) (line : List ℕ) (s′ : Logged) → Kept s → logStep true s line ≡ to s′ → Kept s′
+pub log-keeps : (s : Logged (List ℕ)) (line : List ℕ) (s′ : Logged (List ℕ)) → Kept s → logStep true s line ≡ to s′ → Kept s′
 log-keeps (whole t) line s′ h e = whole-ends true t line s′ e
 log-keeps empty line s′ h e =
     by-head true line (to s′) e
@@ -172,7 +172,7 @@ pub sound : (text t : List ℕ) → logOf text ≡ got t → (text ≡ logText t
 unfolding logOf finish feed logFeed
 sound text t e = let c = content logRoom logDone log-reads text t e in by-state (c .0) (c .1) (c .2) (c .3)
   where
-    by-state : (s : Logged) → Kept s → text ≡ soFar s → logDone s ≡ some t → (text ≡ logText t) × Within t
+    by-state : (s : Logged (List ℕ)) → Kept s → text ≡ soFar s → logDone s ≡ some t → (text ≡ logText t) × Within t
     by-state empty k q d = never (cc)
     by-state (inside u) k q d = never (cc)
     by-state (whole u) k q d = let z : u ≡ t = cc in (q ∙ ap logText z, subst Within z k)

@@ -16,13 +16,13 @@ rows [] = []
 rows (x ∷ t) = rowText x false ++ (10 ∷ rows t)
 
 -- the text that a state has read
-abbrev pub soFar : Logged → List ℕ
+abbrev pub soFar : Logged (List ℕ) → List ℕ
 soFar empty = []
 soFar (inside t) = traceWord ++ (10 ∷ rows t)
 soFar (whole t) = logText t
 
 -- what a state has read keeps the limits
-abbrev pub Kept : Logged → Type 0
+abbrev pub Kept : Logged (List ℕ) → Type 0
 Kept empty = Unit
 Kept (inside t) = Within t
 Kept (whole t) = Within t

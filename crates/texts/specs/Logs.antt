@@ -62,38 +62,54 @@ readBy (some l) = endingBy (endingOf l)
 unfoldable pub rowOf : List ℕ → Row
 rowOf line = readBy (after readWord line)
 
--- nothing read yet; the reads so far; the whole trace
-pub data Logged : Type 0 where
-  empty : Logged
-  inside : List ℕ → Logged
-  whole : List ℕ → Logged
+-- nothing read yet; the reads so far; the whole trace: T is what is kept of the reads
+pub data Logged (T : Type 0) : Type 0 where
+  empty : Logged T
+  inside : T → Logged T
+  whole : T → Logged T
+
+-- the reads so far, or the whole trace where the text ends
+abbrev pub read : {T : Type 0} → Bool → T → Logged T
+read ends t = cond ends (whole t) (inside t)
+
+-- what a read's line does after the reads t; `over` is the limit that a read breaks, or 0, and `more` has one read more
+unfoldable pub rowBy : {T : Type 0} → (T → ℕ → ℕ) → (T → ℕ → T) → T → Row → Answer (Logged T)
+rowBy over more t badRow = no 1
+rowBy over more t (row x ends) = unless (over t x) (to (read ends (more t x)))
+
+-- the first line, `(trace`, or `(trace)`: there are no reads yet
+unfoldable pub headBy : {T : Type 0} → T → Option (List ℕ) → Answer (Logged T)
+headBy start none = no 1
+headBy start (some []) = to (inside start)
+headBy start (some (x ∷ [])) = cond (eqb x 41) (to (whole start)) (no 1)
+headBy start (some (x ∷ y ∷ l)) = no 1
+
+-- what a line does: nothing may follow the whole trace
+unfoldable pub stepBy : {T : Type 0} → T → (T → ℕ → ℕ) → (T → ℕ → T) → Logged T → List ℕ → Answer (Logged T)
+stepBy start over more empty line = headBy start (after traceWord line)
+stepBy start over more (inside t) line = rowBy over more t (rowOf line)
+stepBy start over more (whole t) line = no 1
 
 -- the limit that the read x breaks after the reads t: 2, then 8, then 9, or 0 for none
 abbrev pub overRead : List ℕ → ℕ → ℕ
 overRead t x =
     cond (ltb maxExtent x) 2 (cond (leb maxReads (length t)) 8 (cond (mem x t) 0 (cond (leb maxExtents (length (firsts t))) 9 0)))
 
--- the reads so far, or the whole trace where the text ends
-abbrev pub read : Bool → List ℕ → Logged
-read ends t = cond ends (whole t) (inside t)
+-- the same, where the limits count
+abbrev pub overWhere : Bool → List ℕ → ℕ → ℕ
+overWhere limits t x = counting limits (overRead t x)
 
--- what a read's line does after the reads t
-unfoldable pub rowBy : Bool → List ℕ → Row → Answer Logged
-rowBy limits t badRow = no 1
-rowBy limits t (row x ends) = unless (counting limits (overRead t x)) (to (read ends (t ++ (x ∷ []))))
+-- one read more
+abbrev pub withRead : List ℕ → ℕ → List ℕ
+withRead t x = t ++ (x ∷ [])
 
--- the first line: `(trace`, or `(trace)`
-unfoldable pub headBy : Option (List ℕ) → Answer Logged
-headBy none = no 1
-headBy (some []) = to (inside [])
-headBy (some (x ∷ [])) = cond (eqb x 41) (to (whole [])) (no 1)
-headBy (some (x ∷ y ∷ l)) = no 1
+-- what a read's line does to the reads t
+abbrev pub logRow : Bool → List ℕ → Row → Answer (Logged (List ℕ))
+logRow limits = rowBy (overWhere limits) withRead
 
--- what a line does: nothing may follow the whole trace
-unfoldable pub logStep : Bool → Logged → List ℕ → Answer Logged
-logStep limits empty line = headBy (after traceWord line)
-logStep limits (inside t) line = rowBy limits t (rowOf line)
-logStep limits (whole t) line = no 1
+-- what a line does to the reads so far
+abbrev pub logStep : Bool → Logged (List ℕ) → List ℕ → Answer (Logged (List ℕ))
+logStep limits = stepBy [] (overWhere limits) withRead
 
 -- the bytes of the longest line, ` (read 9999999999))`
 abbrev pub longestLine : ℕ
@@ -104,12 +120,12 @@ abbrev pub logRoom : ℕ → Bool
 logRoom n = ltb n longestLine
 
 -- bytes of a log text, with the limits or by the rule alone
-unfoldable pub logFeed : Bool → Fed Logged → List ℕ → Fed Logged
+unfoldable pub logFeed : Bool → Fed (Logged (List ℕ)) → List ℕ → Fed (Logged (List ℕ))
 logFeed limits = feedBy (logStep limits) logRoom
 
 -- a log text taken so far
 abbrev pub State : Type 0
-State = Fed Logged
+State = Fed (Logged (List ℕ))
 
 -- nothing taken yet
 abbrev pub start : State
@@ -120,7 +136,7 @@ unfoldable pub feed : State → List ℕ → State
 feed s l = logFeed true s l
 
 -- what is read whole
-abbrev pub logDone : Logged → Option (List ℕ)
+abbrev pub logDone : Logged (List ℕ) → Option (List ℕ)
 logDone empty = none
 logDone (inside t) = none
 logDone (whole t) = some t
