@@ -5,36 +5,6 @@ use listing::Lister;
 use listing::Phase;
 use reuse::MAX_EXTENTS;
 
-// A lister with the extent 7 first in its stack, where it has one, and these words besides.
-fn lister(
-    byte: u8,
-    held: usize,
-    phase: Phase,
-    reads: u32,
-    extents: usize,
-    second: u32,
-    count: u32,
-) -> Lister {
-    let mut line = [0u8; 19];
-    line[0] = byte;
-    let mut stack = [0u32; MAX_EXTENTS];
-    if 0 < extents {
-        stack[0] = 7;
-    }
-    stack[1] = second;
-    let mut counts = [0u32; MAX_EXTENTS];
-    counts[1] = count;
-    Lister {
-        line,
-        held,
-        phase,
-        reads,
-        extents,
-        stack,
-        counts,
-    }
-}
-
 // The refusal's number of a phase, and 0 where it has none.
 fn number(phase: Phase) -> u32 {
     match phase {
@@ -78,8 +48,36 @@ fn same(a: Lister, b: Lister) -> bool {
     row_same(stack, stacked) && row_same(counts, counted)
 }
 
-// A lister fed the end of a trace: its output, and whether its words are as they were.
-fn fed(name: &[u8], before: Lister) {
+// A lister with the extent 7 first in its stack, where it has one, and these words besides, is fed the end of a trace: its
+// output, and whether its words are as they were.
+fn fed(
+    name: &[u8],
+    byte: u8,
+    held: usize,
+    phase: Phase,
+    reads: u32,
+    extents: usize,
+    second: u32,
+    count: u32,
+) {
+    let mut line = [0u8; 19];
+    line[0] = byte;
+    let mut stack = [0u32; MAX_EXTENTS];
+    if 0 < extents {
+        stack[0] = 7;
+    }
+    stack[1] = second;
+    let mut counts = [0u32; MAX_EXTENTS];
+    counts[1] = count;
+    let before = Lister {
+        line,
+        held,
+        phase,
+        reads,
+        extents,
+        stack,
+        counts,
+    };
     let after = before.feed(b" (read 7))\n");
     let page = after.finish();
     let bytes = page.bytes;
@@ -90,22 +88,25 @@ fn fed(name: &[u8], before: Lister) {
 // One that a text gives, and then one for each kind of damage.
 pub fn all() {
     let inside = Phase::Inside;
-    fed(b"inside", lister(0, 0, inside, 1, 1, 0, 0));
-    fed(b"refused 3", lister(0, 0, Phase::Stopped(3), 0, 0, 0, 0));
-    fed(
-        b"refused with reads",
-        lister(0, 0, Phase::Stopped(1), 1, 1, 0, 0),
-    );
+    fed(b"inside", 0, 0, inside, 1, 1, 0, 0);
+    fed(b"refused 3", 0, 0, Phase::Stopped(3), 0, 0, 0, 0);
+    fed(b"refused with reads", 0, 0, Phase::Stopped(1), 1, 1, 0, 0);
     fed(
         b"reads before the first line",
-        lister(0, 0, Phase::Empty, 1, 1, 0, 0),
+        0,
+        0,
+        Phase::Empty,
+        1,
+        1,
+        0,
+        0,
     );
-    fed(b"byte 10 held", lister(10, 1, inside, 1, 1, 0, 0));
-    fed(b"20 bytes held", lister(0, 20, inside, 1, 1, 0, 0));
-    fed(b"a byte past those held", lister(65, 0, inside, 1, 1, 0, 0));
-    fed(b"257 extents", lister(0, 0, inside, 257, 257, 0, 0));
-    fed(b"an extent twice", lister(0, 0, inside, 2, 2, 7, 0));
-    fed(b"a read not counted", lister(0, 0, inside, 2, 1, 0, 0));
-    fed(b"a word past the stack", lister(0, 0, inside, 1, 1, 9, 0));
-    fed(b"a word past the counts", lister(0, 0, inside, 1, 1, 0, 9));
+    fed(b"byte 10 held", 10, 1, inside, 1, 1, 0, 0);
+    fed(b"20 bytes held", 0, 20, inside, 1, 1, 0, 0);
+    fed(b"a byte past those held", 65, 0, inside, 1, 1, 0, 0);
+    fed(b"257 extents", 0, 0, inside, 257, 257, 0, 0);
+    fed(b"an extent twice", 0, 0, inside, 2, 2, 7, 0);
+    fed(b"a read not counted", 0, 0, inside, 2, 1, 0, 0);
+    fed(b"a word past the stack", 0, 0, inside, 1, 1, 9, 0);
+    fed(b"a word past the counts", 0, 0, inside, 1, 1, 0, 9);
 }
