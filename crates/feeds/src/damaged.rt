@@ -3,6 +3,7 @@ use crate::pieces;
 use crate::report;
 use listing::Lister;
 use listing::Phase;
+use listing_tally::LONGEST;
 use reuse::MAX_EXTENTS;
 
 // The refusal's number of a phase, and 0 where it has none.
@@ -60,7 +61,7 @@ fn fed(
     second: u32,
     count: u32,
 ) {
-    let mut line = [0u8; 19];
+    let mut line = [0u8; LONGEST];
     line[0] = byte;
     let mut stack = [0u32; MAX_EXTENTS];
     if 0 < extents {
