@@ -1,13 +1,11 @@
-// Feeds log texts to the lister byte by byte and in every cutting into two or three pieces, and listers that no text gives.
-mod damaged;
+// Feeds log texts to the lister byte by byte and in every cutting into two or three pieces.
 mod long;
 mod pieces;
 mod report;
 mod short;
 
-// The short texts, then the long ones, then damaged listers.
+// The short texts, then the long ones.
 fn main() {
     short::all();
     long::all();
-    damaged::all();
 }

@@ -17,15 +17,6 @@ fn counts(agree: u64, differ: u64) {
     io::write_all(STDOUT_FILENO, b" differ\n");
 }
 
-// Whether a lister's words are as they were.
-pub fn kept(same: bool) {
-    if same {
-        io::write_all(STDOUT_FILENO, b"word for word as it was\n");
-    } else {
-        io::write_all(STDOUT_FILENO, b"changed\n");
-    }
-}
-
 // A text: its output fed byte by byte, and its cuttings.
 pub fn text(name: &[u8], text: &[u8]) {
     let page = pieces::by_bytes(text);

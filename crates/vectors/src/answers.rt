@@ -88,19 +88,3 @@ pub fn is_share(answer: ShareAnswer, hits: u32, reads: u32) -> bool {
         ShareAnswer::Refused(_) => false,
     }
 }
-
-// Whether misses are refused with this number.
-pub fn refuses_misses(answer: MissCount, refusal: u32) -> bool {
-    match answer {
-        MissCount::Misses(_) => false,
-        MissCount::Refused(n) => n == refusal,
-    }
-}
-
-// Whether a hit share is refused with this number.
-pub fn refuses_share(answer: ShareAnswer, refusal: u32) -> bool {
-    match answer {
-        ShareAnswer::Answered(_) => false,
-        ShareAnswer::Refused(n) => n == refusal,
-    }
-}

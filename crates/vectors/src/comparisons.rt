@@ -27,7 +27,6 @@ pub struct Compared {
     pub misses: Count,
     pub shares: Count,
     pub watches: Count,
-    pub unsound: Count,
 }
 
 // A log read so far: the session, the watch on one size, the hits of the simulated cache of that size, and its hits compared.
@@ -97,14 +96,6 @@ fn watched(watch: Watch, hits: u32, reads: u32, misses: u32, count: Count) -> Co
     c.tally(answers::is_share(watch::share(watch), hits, reads))
 }
 
-// The misses and the hit share of a session that counts one read too many, which is not sound.
-fn unsound_at(session: Session, size: u32, count: Count) -> Count {
-    let mut s = session;
-    s.reads = std::num::wrapping_add_u32(s.reads, 1);
-    let c = count.tally(answers::refuses_misses(answers::misses_of(s, size), 7));
-    c.tally(answers::refuses_share(answers::share_of(s, size), 7))
-}
-
 // One log at one size.
 fn at_size(log: &[u32], size: u32, so_far: Compared) -> Compared {
     let mut buffer = [0u32; SUMMARY];
@@ -120,7 +111,6 @@ fn at_size(log: &[u32], size: u32, so_far: Compared) -> Compared {
         misses: misses_at(session, words, size, misses, so_far.misses),
         shares: shares_at(session, words, size, all.hits, reads, so_far.shares),
         watches: watched(all.watch, all.hits, reads, misses, so_far.watches),
-        unsound: unsound_at(session, size, so_far.unsound),
     }
 }
 
@@ -163,7 +153,6 @@ pub fn all() -> Compared {
         misses: Count::none(),
         shares: Count::none(),
         watches: Count::none(),
-        unsound: Count::none(),
     };
     for i in 0..LOGS {
         c = one(i, c);

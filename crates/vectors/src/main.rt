@@ -1,4 +1,4 @@
-// Prints what sessions answer at their limits, and compares what the calls answer with a direct cache simulation.
+// Compares what the calls answer with a direct cache simulation.
 use count::Count;
 use libc::STDOUT_FILENO;
 
@@ -7,7 +7,6 @@ mod cache;
 mod comparisons;
 mod count;
 mod logs;
-mod rows;
 mod words;
 
 // One line: what was compared, how often, and how many differ.
@@ -20,13 +19,11 @@ fn line(what: &[u8], count: Count) {
     io::write_all(STDOUT_FILENO, b"\n");
 }
 
-// All rows, then all comparisons.
+// All comparisons.
 fn main() {
-    rows::all();
     let all = comparisons::all();
     line(b"hits", all.hits);
     line(b"misses", all.misses);
     line(b"hit shares", all.shares);
     line(b"watches", all.watches);
-    line(b"sessions that are not sound", all.unsound);
 }

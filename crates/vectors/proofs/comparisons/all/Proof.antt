@@ -22,9 +22,6 @@ none-requires-3 c κs = search needs
 none-requires-4 : tie.Need-none-requires-4 Inv-loop μ-loop
 none-requires-4 c κs = search needs
 
-none-requires-5 : tie.Need-none-requires-5 Inv-loop μ-loop
-none-requires-5 c κs = search needs
-
 loop-holds : tie.Need-loop-holds Inv-loop μ-loop
 loop-holds c = search needs
 
@@ -53,7 +50,6 @@ all-spec =
     none-requires-2
     none-requires-3
     none-requires-4
-    none-requires-5
     loop-holds
     one-requires
     add-i

@@ -1,9 +1,9 @@
--- `feeds::damaged::row_same` is safe and ends.
+-- `feeds_damaged::row_same` is safe and ends.
 use Prim.Native.Nat.{_-_, _≤_}
 use Rattle.reuse.specs.Limits.{maxExtents}
 use borrow.Author.Needs.{needs}
-use Rattle.feeds.proofs.damaged.row_same.Statement.{statement}
-use Rattle.feeds.proofs.damaged.row_same.Tie as tie
+use Rattle.feeds_damaged.proofs.row_same.Statement.{statement}
+use Rattle.feeds_damaged.proofs.row_same.Tie as tie
 
 abbrev Inv-loop : tie.InvT-loop
 Inv-loop a b same₀ i₀ same i = i ≤ maxExtents

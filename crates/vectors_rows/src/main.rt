@@ -1,4 +1,4 @@
-// The rows that are run and not proved: what a session answers at its limits, one line a row.
+// Prints the rows that are run and not proved: what a session answers at its limits, one line a row.
 ghost use Prim.Native.Nat.{_<_};
 use libc::STDOUT_FILENO;
 use reuse::MAX_EXTENTS;
@@ -50,7 +50,7 @@ fn row(call: &[u8], step: Step) -> Session {
 }
 
 // All rows.
-pub fn all() {
+fn main() {
     let one = after(SLOTS as u32 - 1, 1);
     let moved = row(b"one extent, read 512", one.read(0));
     row(b"one extent, read 513", moved.read(0));

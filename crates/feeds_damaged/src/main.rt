@@ -1,6 +1,5 @@
-// Listers that no text gives: each is refused 7 and comes back word for word.
-use crate::pieces;
-use crate::report;
+// Feeds listers that no text gives: each is refused 7 and comes back word for word.
+use libc::STDOUT_FILENO;
 use listing::Lister;
 use listing::Phase;
 use listing_tally::LONGEST;
@@ -49,8 +48,26 @@ fn same(a: Lister, b: Lister) -> bool {
     row_same(stack, stacked) && row_same(counts, counted)
 }
 
-// A lister with the extent 7 first in its stack, where it has one, and these words besides, is fed the end of a trace: its
-// output, and whether its words are as they were.
+// Prints a name, and whether the words are as they were.
+fn head(name: &[u8], kept: bool) {
+    io::write_all(STDOUT_FILENO, name);
+    if kept {
+        io::write_all(STDOUT_FILENO, b", word for word as it was:\n");
+    } else {
+        io::write_all(STDOUT_FILENO, b", changed:\n");
+    }
+}
+
+// Prints a lister's output.
+fn show(lister: Lister) {
+    let page = lister.finish();
+    let bytes = page.bytes;
+    let n = page.len;
+    io::write_all(STDOUT_FILENO, &bytes[..n]);
+}
+
+// A lister with the extent 7 first in its stack, where it has one, and these words besides, is fed the end of a trace:
+// whether its words are as they were, and its output.
 fn fed(
     name: &[u8],
     byte: u8,
@@ -80,14 +97,12 @@ fn fed(
         counts,
     };
     let after = before.feed(b" (read 7))\n");
-    let page = after.finish();
-    let bytes = page.bytes;
-    report::output(name, pieces::front(&bytes, page.len));
-    report::kept(same(before, after));
+    head(name, same(before, after));
+    show(after);
 }
 
 // One that a text gives, and then one for each kind of damage.
-pub fn all() {
+fn main() {
     let inside = Phase::Inside;
     fed(b"inside", 0, 0, inside, 1, 1, 0, 0);
     fed(b"refused 3", 0, 0, Phase::Stopped(3), 0, 0, 0, 0);

@@ -1,8 +1,8 @@
--- `vectors::rows::after` is safe and ends.
+-- `vectors_rows::after` is safe and ends.
 use Prim.Native.Nat.{_-_}
 use borrow.Author.Needs.{needs}
-use Rattle.vectors.proofs.rows.after.Statement.{statement}
-use Rattle.vectors.proofs.rows.after.Tie as tie
+use Rattle.vectors_rows.proofs.after.Statement.{statement}
+use Rattle.vectors_rows.proofs.after.Tie as tie
 
 abbrev Inv-loop : tie.InvT-loop
 Inv-loop reads extents s₀ i₀ s i = Unit {0}
