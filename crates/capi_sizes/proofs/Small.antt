@@ -21,7 +21,7 @@ use Rattle.texts.specs.Plans.{Plan, reads}
 use Rattle.texts.specs.PlanTexts.{planOf}
 use Rattle.plan_calls.specs.Calls.{Ran, workWords, carriedOut, planCall, runBy, runCall}
 use Rattle.listing_memory.specs.Calls.{listBy, listCall}
-use Rattle.session_words.specs.Layout.{sessionLength, sessionIn}
+use Rattle.session_layout.specs.Layout.{sessionLength, sessionIn}
 use Rattle.session_words.specs.Calls.{newSession, summaryIn}
 use Rattle.watch_words.specs.Calls.{newWatch}
 use Rattle.capi_answers.specs.Answers.{mostSigned, Small}

@@ -1,14 +1,12 @@
 -- Words that hold a session: too few of them, and what a refusal leaves.
-use mathlib.Core.Path.{_≡_, refl, ap, _∙_}
+use mathlib.Core.Path.{_≡_, refl, sym, ap, _∙_}
 use Prim.Native.Nat.{ℕ, _≤_, _<_}
 use native.Mathlib.Omega.{arith}
 use mathlib.Core.List.{List}
 use mathlib.Core.Bool.{true, false, true≢false, false≢true}
-use lib.ListN.{length, length-replicate}
+use lib.ListN.{length}
 use borrow.Author.Tests.{le-leb, lt-leb}
-use Rattle.reuse.specs.Limits.{maxExtents, slotCount, sumCount}
-use Rattle.reuse_rows.specs.Rows.{putAt}
-use Rattle.reuse_copies.proofs.Puts.{put-length}
+use Rattle.reuse_rows.specs.Rows.{putAt, placed}
 use Rattle.summary_calls.specs.declared.Written.the-variants.{Words}
 use Rattle.summary_calls.specs.declared.MissCount.the-variants.{Refused as NoMisses}
 use Rattle.summary_calls.specs.declared.ShareAnswer.the-variants.{Refused as NoShare}
@@ -21,18 +19,9 @@ use Rattle.session.specs.Sessions.{fresh}
 use Rattle.session_soundness.specs.Soundness.{Wide}
 use Rattle.session.specs.Reads.{refused as readRefused, readOf}
 use Rattle.session_summary.specs.Summaries.{summaryCall, missesCall, shareCall}
-use Rattle.session_words.specs.Layout.{sessionLength, sessionIn, sessionLaid}
+use Rattle.session_layout.specs.Layout.{sessionLength, sessionIn, sessionLaid}
 use Rattle.session_words.specs.Calls.{newSession, readIn, sessionLeft, summaryIn, missesIn, shareIn, isRead}
-use Rattle.session_words.proofs.Laid.{laid-length, laid-read}
-
--- the rows of a new session
-fresh-wide : Wide (fresh .first) (fresh .hist) (fresh .slots) (fresh .sums)
-fresh-wide = record {
-  first-wide = length-replicate {A = ℕ} maxExtents 0;
-  hist-wide = length-replicate {A = ℕ} maxExtents 0;
-  slots-wide = length-replicate {A = ℕ} slotCount 0;
-  sums-wide = length-replicate {A = ℕ} sumCount 0;
-}
+use Rattle.session_layout.proofs.Laid.{fresh-wide, laid-length, laid-fits, laid-row, laid-read}
 
 module _ (w : List ℕ) where
   module _ (few : length w < sessionLength) where
@@ -62,9 +51,11 @@ module _ (w : List ℕ) where
 
   module _ (enough : sessionLength ≤ length w) where
     -- a new session is written
-    pub new-all : newSession w ≡ record { answer = Words sessionLength; buffer = putAt w 0 (sessionLaid fresh) }
+    pub new-all : newSession w ≡ record { answer = Words sessionLength; buffer = placed w 0 (sessionLaid fresh) }
     unfolding newSession
-    new-all = wrote-all (sessionLaid fresh) w sessionLength (laid-length fresh fresh-wide) enough
+    new-all =
+        wrote-all (sessionLaid fresh) w sessionLength (laid-length fresh fresh-wide) enough
+        ∙ ap (λ (b : List ℕ). record { answer = Words sessionLength; buffer = b }) (sym (laid-fits fresh fresh-wide w enough))
 
     -- the session in the words reads
     pub read-all : (x : ℕ) → readIn w x ≡ readOf (sessionIn w) x
@@ -89,8 +80,7 @@ module _ (w : List ℕ) where
 pub read-kept : (s : Session) → Wide (s .first) (s .hist) (s .slots) (s .sums) → (w : List ℕ) → sessionLength ≤ length w → (x : ℕ)
     → readIn (putAt w 0 (sessionLaid s)) x ≡ readOf s x
 read-kept s wide w l x =
-    let e : length (putAt w 0 (sessionLaid s)) ≡ length w = put-length w 0 (sessionLaid s) (omega (arith, l, laid-length s wide)) in
-    read-all (putAt w 0 (sessionLaid s)) (omega (arith, l, e)) x ∙ ap (λ (t : Session). readOf t x) (laid-read s wide w)
+    read-all (putAt w 0 (sessionLaid s)) (omega (arith, l, laid-row s wide w l)) x ∙ ap (λ (t : Session). readOf t x) (laid-read s wide w)
 
 -- a read that is accepted puts the session's words
 pub left-read : (a : Answer) (s : Session) (w : List ℕ) → isRead a ≡ true → sessionLeft a s w ≡ putAt w 0 (sessionLaid s)

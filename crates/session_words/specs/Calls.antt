@@ -17,7 +17,7 @@ use Rattle.session.specs.declared.Answer.the-variants.{Cold, Distance, Refused}
 use Rattle.session.specs.Sessions.{fresh}
 use Rattle.session.specs.Reads.{refused as readRefused, readOf}
 use Rattle.session_summary.specs.Summaries.{summaryCall, missesCall, shareCall}
-use Rattle.session_words.specs.Layout.{sessionLength, sessionIn, sessionLaid}
+use Rattle.session_layout.specs.Layout.{sessionLength, sessionIn, sessionLaid}
 
 -- a new session's words, or 6
 unfoldable pub newSession : List ℕ → Wrote

@@ -1,8 +1,8 @@
 -- `session_words::new_session` meets its contract.
 use mathlib.Core.Path.{sym, ap, _∙_}
-use Rattle.reuse_rows.specs.Rows.{putAt}
+use Rattle.reuse_rows.specs.Rows.{placed}
 use Rattle.summary_calls.specs.Calls.{Wrote}
-use Rattle.session_words.specs.Layout.{sessionLaid}
+use Rattle.session_layout.specs.Layout.{sessionLaid}
 use Rattle.session_words.proofs.Kept.{new-short, new-all}
 use borrow.Author.Needs.{needs}
 use Rattle.session_words.proofs.new_session.Statement.{statement}
@@ -27,7 +27,7 @@ returns-2 c =
     let n = c .before .before .before .before in
     let e = new-all _ (n .before .if1 .left) in (
       sym (ap (λ (v : Wrote). v .answer) e),
-      c .before .before .put-session .ensures ∙ ap (λ s. putAt (n .before .before .before .args .words .now) 0 (sessionLaid s)) (n .new .ensures) ∙ sym (ap (λ (v : Wrote). v .buffer) e),
+      c .before .before .put-session .ensures ∙ ap (λ s. placed (n .before .before .before .args .words .now) 0 (sessionLaid s)) (n .new .ensures) ∙ sym (ap (λ (v : Wrote). v .buffer) e),
     )
 
 pub new-session-spec : {M : Type 1} → statement M

@@ -3,15 +3,17 @@ use mathlib.Core.Path.{_≡_, refl, sym, ap, _∙_}
 use Prim.Native.Nat.{ℕ, _+_, _≤_, _<_}
 use native.Mathlib.Omega.{arith}
 use mathlib.Core.List.{List, [], _∷_, _++_, append-assoc, append-nil}
-use lib.ListN.{length, take, drop, getD, set, length-append, length-take, length-drop, drop-of-length-le}
-use lib.Seq.{drop-at, take-at, drop-drop, getD-drop}
+use lib.ListN.{length, take, drop, getD, set, length-append, length-take, length-drop, length-replicate, drop-of-length-le}
+use lib.Seq.{drop-at, take-at, take-all, drop-drop, getD-drop}
 use Rattle.reuse.specs.Limits.{maxExtents, slotCount, sumCount}
-use Rattle.reuse_rows.specs.Rows.{putAt, placed}
-use Rattle.reuse_copies.proofs.Puts.{put-cons, put-none, placed-fits}
+use Rattle.reuse_rows.specs.Rows.{putAt, placed, padded}
+use Rattle.reuse_copies.proofs.Padding.{padded-front, padded-wide}
+use Rattle.reuse_copies.proofs.Puts.{put-cons, put-none, put-length, placed-fits, placed-not}
 use Rattle.session.specs.declared.Session.{Session}
+use Rattle.session.specs.Sessions.{fresh}
 use Rattle.session_soundness.specs.Soundness.{Wide}
 use Rattle.reuse_copies.proofs.Filling.{Filled, fill-step, filled-length}
-use Rattle.session_words.specs.Layout.{firstPlace, histPlace, slotsPlace, sumsPlace, nextPlace, sessionLength, sessionIn, sessionLaid, part}
+use Rattle.session_layout.specs.Layout.{firstPlace, histPlace, slotsPlace, sumsPlace, nextPlace, sessionLength, sessionIn, sessionLaid, part}
 
 -- words as many as the row has places
 pub placed-whole : (row l : List ℕ) → length row ≡ length l → placed row 0 l ≡ l
@@ -19,6 +21,11 @@ unfolding putAt
 placed-whole row l e =
     let z : 0 + length l ≡ length l = omega arith in
     placed-fits row 0 l (omega (arith, e)) ∙ rw z (simp (drop-of-length-le row {i = length l} (omega (arith, e)), append-nil))
+
+-- words as many as the limit
+pub padded-whole : (l : List ℕ) → maxExtents ≡ length l → padded l ≡ l
+padded-whole l e =
+    sym (take-all (length l) (padded l) (omega (arith, e, padded-wide l))) ∙ padded-front l (omega (arith, e))
 
 -- a part of so many words has them
 pub part-length : (w : List ℕ) (at n : ℕ) → at + n ≤ length w → n ≡ length (take n (drop at w))
@@ -38,6 +45,15 @@ pub lay-step : (out l row : List ℕ) (n : ℕ) → Filled out l row n → (m ro
 lay-step out l row n h m row' n' e w q =
     fill-step out l row n h m row' n' (omega (arith, e)) (omega (arith, e))
     (q ∙ placed-fits row n m (omega (arith, e, filled-length out l row n h)))
+
+-- the widths of a new session
+pub fresh-wide : Wide (fresh .first) (fresh .hist) (fresh .slots) (fresh .sums)
+fresh-wide = record {
+  first-wide = length-replicate {A = ℕ} maxExtents 0;
+  hist-wide = length-replicate {A = ℕ} maxExtents 0;
+  slots-wide = length-replicate {A = ℕ} slotCount 0;
+  sums-wide = length-replicate {A = ℕ} sumCount 0;
+}
 
 module _ (s : Session) (wide : Wide (s .first) (s .hist) (s .slots) (s .sums)) where
   -- the parts, one after the other, are the session's words
@@ -75,6 +91,18 @@ module _ (s : Session) (wide : Wide (s .first) (s .hist) (s .slots) (s .sums)) w
   pub laid-length : length (sessionLaid s) ≡ sessionLength
   unfolding sessionLaid
   laid-length = simp (length-append, wide .first-wide, wide .hist-wide, wide .slots-wide, wide .sums-wide)
+
+  -- a row with room for them takes them
+  pub laid-fits : (w : List ℕ) → sessionLength ≤ length w → placed w 0 (sessionLaid s) ≡ putAt w 0 (sessionLaid s)
+  laid-fits w l = placed-fits w 0 (sessionLaid s) (omega (arith, l, laid-length))
+
+  -- and keeps its length
+  pub laid-row : (w : List ℕ) → sessionLength ≤ length w → length (putAt w 0 (sessionLaid s)) ≡ length w
+  laid-row w l = put-length w 0 (sessionLaid s) (omega (arith, l, laid-length))
+
+  -- a shorter one stays as it was
+  pub laid-not : (w : List ℕ) → length w < sessionLength → placed w 0 (sessionLaid s) ≡ w
+  laid-not w l = placed-not w 0 (sessionLaid s) (omega (arith, l, laid-length))
 
   module _ (rest : List ℕ) where
     abbrev on-sums : List ℕ

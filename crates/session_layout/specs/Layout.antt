@@ -1,9 +1,13 @@
 -- A session as words: what the first words of a row stand for, and the words of a session.
 use Prim.Native.Nat.{ℕ, _+_}
+use mathlib.Core.Bool.{cond}
 use mathlib.Core.List.{List, [], _∷_, _++_}
-use lib.ListN.{take, drop, getD}
+use lib.Dec.{leb}
+use lib.ListN.{length, take, drop, getD}
 use Rattle.reuse.specs.Limits.{maxExtents, slotCount, sumCount}
 use Rattle.session.specs.declared.Session.{Session}
+use Rattle.session.specs.Sessions.{fresh}
+use Rattle.session_layout.specs.declared.Kept.{Kept}
 
 -- where F, H, the slots, the sums and the next slot stand, after the reads
 abbrev pub firstPlace : ℕ
@@ -38,6 +42,13 @@ sessionIn w = record {
   slots = part slotsPlace slotCount w;
   sums = part sumsPlace sumCount w;
   next = getD w nextPlace 0;
+}
+
+-- whether the words are enough for a session, and the session in the first of them; a new one where they are too few
+unfoldable pub keptIn : List ℕ → Kept
+keptIn w = record {
+  enough = leb sessionLength (length w);
+  session = cond (leb sessionLength (length w)) (sessionIn w) fresh;
 }
 
 -- the words of a session: L, F, H, the slots, the sums, the next slot
