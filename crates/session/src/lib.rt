@@ -1,11 +1,9 @@
 // A session: a trace taken read by read.
 ghost use mathlib.Core.Path.{_≡_};
-ghost use Prim.Native.Nat.{suc, _≤_, _<_};
-ghost use lib.ListN.{drop, set};
+ghost use Prim.Native.Nat.{suc};
+ghost use lib.ListN.{drop};
 ghost use Rattle.reuse.specs.Lists.{sum};
 ghost use Rattle.reuse.specs.Lru.{cold, at};
-ghost use Rattle.reuse.specs.Limits.{slotCount, levels};
-ghost use Rattle.session_sums.specs.Sums.{sumsOf, marksIn, Trued};
 ghost use Rattle.session.specs.Sessions.{fresh, marks, sound};
 ghost use Rattle.session.specs.Reads.{gathered, stepAt, refused, readOf};
 ghost use Rattle.session.specs.Steps.{Gatherable, Movable, Enterable};
@@ -37,20 +35,6 @@ pub enum Answer {
 pub struct Step {
     pub session: Session,
     pub answer: Answer,
-}
-
-// The leaf s becomes v (0 or 1), and every sum over it changes by as much.
-fn put_mark(sums: &mut [u32; SUMS], s: usize, v: u32)
-    requires { ⌜ (s < slotCount) × (v ≤ 1) × Trued levels slotCount (now sums) ⌝ }
-    ensures { λ _. ⌜ now (sums .exit) ≡ sumsOf levels (set (marksIn (now (sums .entry))) s v) ⌝ }
-{
-    let old = sums[s];
-    let mut p = s;
-    while p < ROOT {
-        sums[p] = sums[p] + v - old;
-        p = SLOTS + p / 2;
-    }
-    sums[ROOT] = sums[ROOT] + v - old;
 }
 
 impl Session {
@@ -105,8 +89,8 @@ impl Session {
     {
         let w = session_sums::above(&self.sums, k);
         let next = self.next as usize;
-        put_mark(&mut self.sums, k, 0);
-        put_mark(&mut self.sums, next, 1);
+        session_sums::put_mark(&mut self.sums, k, 0);
+        session_sums::put_mark(&mut self.sums, next, 1);
         self.slots[k] = 0;
         self.slots[next] = x;
         let t = w.total as usize;
@@ -130,7 +114,7 @@ impl Session {
         let v = self.sums[ROOT] as usize;
         let next = self.next as usize;
         self.first[v] = x;
-        put_mark(&mut self.sums, next, 1);
+        session_sums::put_mark(&mut self.sums, next, 1);
         self.slots[next] = x;
         self.next = self.next + 1;
         self.reads = self.reads + 1;

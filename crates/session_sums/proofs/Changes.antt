@@ -1,16 +1,19 @@
--- A leaf that is set: how the change comes up to the root.
-use mathlib.Core.Path.{_≡_, sym, ap, subst, _∙_}
+-- A leaf that is set: how the change comes up to the root, and that the sums are true after it.
+use mathlib.Core.Path.{_≡_, refl, sym, ap, subst, _∙_}
 use mathlib.Core.List.{List, [], _∷_, _++_, append-assoc, append-nil}
-use Prim.Native.Nat.{ℕ, zero, suc, _+_, _-_, _/_, _%_, _≤_, _<_}
+use Prim.Native.Nat.{ℕ, zero, suc, _+_, _-_, _/_, _%_, _^_, _≤_, _<_}
 use native.Mathlib.Omega.{arith}
 use native.Mathlib.Nat.{suc-add}
 use native.Mathlib.Decide.{decLe}
 use lib.ListN.{length, take, getD, set, length-append, length-set}
 use lib.Seq.{getD-take, set-append-left}
+use borrow.Author.Tests.{lt-ltb, le-ltb}
 use Rattle.reuse.specs.Lists.{sum}
-use Rattle.session_sums.specs.Sums.{pairs, sumsOf, Trued}
+use Rattle.reuse.specs.Limits.{slotCount, levels}
+use Rattle.session_sums.specs.Sums.{pairs, sumsOf, marksIn, Trued}
+use Rattle.session_sums.specs.Changes.{lessWord, changedUp, markPut}
 use Rattle.reuse.proofs.Sums.{at-le-sum}
-use Rattle.session_sums.proofs.Tree.{leaves, leaves-pos, double, double-is, even, odd, sum-pairs, length-pairs}
+use Rattle.session_sums.proofs.Tree.{full, leaves, leaves-pos, double, double-is, even, odd, sum-pairs, length-pairs, take-sums-set, trued-set}
 use Rattle.session_sums.proofs.Walks.{at-level}
 
 -- a place set behind the first of two lists
@@ -72,132 +75,117 @@ over l j x h = by (decLe 1 (j % 2))
         let q : j ≡ suc (double (j / 2)) = odd j (omega arith) in
         subst (λ (k : ℕ). Over l k (j / 2) x) (sym q) (record { changed = set-odd (j / 2) l x (omega arith); more = at-odd (j / 2) l })
 
-module _ (A pre level rest : List ℕ) (p j : ℕ) (split : A ≡ pre ++ (level ++ rest)) (here : p ≡ length pre + j) (inside : j < length level) where
-  -- a place of a level, in the whole
-  get-level : getD A p 0 ≡ getD level j 0
-  get-level = rw (split, here) (at-level pre level rest j inside)
+-- d more words on the way up over a row that is known
+from-row : (N c d : ℕ) {A B : List ℕ} {p q : ℕ} → A ≡ B → p ≡ q → changedUp N c d A p ≡ changedUp N c d B q
+from-row N c d {A} {q = q} a b = ap (changedUp N c d A) b ∙ ap (λ (l : List ℕ). changedUp N c d l q) a
 
-  -- a place of a level set, in the whole
-  set-level : (x : ℕ) → set A p x ≡ pre ++ (set level j x ++ rest)
-  set-level x = rw (split, here, set-append-add, set-append-left)
+module _ (N old v : ℕ) (fits : N + v < 2 ^ 32) where
+  -- a word that holds the old one, and no more than N, does not wrap
+  changed-word : (w : ℕ) → old ≤ w → w ≤ N → (w + lessWord v old) % 2 ^ 32 ≡ w + v - old
+  unfolding lessWord
+  changed-word w low few = omega arith
 
--- where the change has come: the sums A before p are those of T, and at p and over it they are still the old ones
-pub record Put (N : ℕ) (T : List ℕ) (v old : ℕ) (A : List ℕ) (p : ℕ) : Type 0 where
-  pub pre : List ℕ
-  pub level : List ℕ
-  pub d : ℕ
-  pub j : ℕ
-  pub split : A ≡ pre ++ sumsOf d level
-  pub goal : T ≡ pre ++ sumsOf d (set level j (getD level j 0 + v - old))
-  pub full : length level ≡ leaves d
-  pub place : length pre + (leaves d + leaves d) ≡ N + N
-  pub here : p ≡ length pre + j
-  pub inside : j < leaves d
-  pub low : old ≤ getD level j 0
-  pub few : sum level ≤ N
+  -- one word of a level changed, in the whole
+  changed-level : (pre level rest : List ℕ) (j : ℕ) → j < length level → old ≤ getD level j 0 → sum level ≤ N
+      → set (pre ++ (level ++ rest)) (length pre + j) ((getD (pre ++ (level ++ rest)) (length pre + j) 0 + lessWord v old) % 2 ^ 32)
+      ≡ pre ++ (set level j (getD level j 0 + v - old) ++ rest)
+  changed-level pre level rest j inside low few =
+      rw (
+        at-level pre level rest j inside,
+        changed-word (getD level j 0) low (omega (arith, at-le-sum level j)),
+        set-append-add,
+        set-append-left,
+      )
 
--- the start, at the leaf s
-pub put-start : (d N : ℕ) (S : List ℕ) (s v : ℕ) → Trued d N S → leaves d ≡ N → s < N → Put N (sumsOf d (set (take N S) s v)) v (getD S s 0) S s
-put-start d N S s v t e h = record {
-  pre = [];
-  level = take N S;
-  d = d;
-  j = s;
-  split = t .true-sums;
-  goal = ap (λ (x : ℕ). sumsOf d (set (take N S) s x)) (omega (arith, same));
-  full = t .full ∙ sym e;
-  place = omega arith;
-  here = omega arith;
-  inside = omega arith;
-  low = omega (arith, same);
-  few = t .few;
-}
-  where
-    same : getD (take N S) s 0 ≡ getD S s 0
-    same = getD-take N S s 0 h
-
-module _ (N : ℕ) (T : List ℕ) (v old : ℕ) (A : List ℕ) (p : ℕ) where
-  -- one turn on a level that has one above
-  put-more : (pre level : List ℕ) (d j : ℕ)
-      → A ≡ pre ++ sumsOf (suc d) level → T ≡ pre ++ sumsOf (suc d) (set level j (getD level j 0 + v - old))
-      → length level ≡ leaves (suc d) → length pre + (leaves (suc d) + leaves (suc d)) ≡ N + N → p ≡ length pre + j → j < leaves (suc d)
-      → old ≤ getD level j 0 → sum level ≤ N
-      → Put N T v old (set A p (getD A p 0 + v - old)) (N + p / 2)
-  unfolding sumsOf leaves
-  put-more pre level d j split goal full place here inside low few = record {
-    pre = pre ++ set level j new;
-    level = pairs level;
-    d = d;
-    j = j / 2;
-    split = set-level A pre level rest p j split here (omega arith) (getD A p 0 + v - old) ∙ ap (λ (x : ℕ). pre ++ (set level j x ++ rest)) (omega (arith, got)) ∙ sym (append-assoc pre (set level j new) rest);
-    goal = goal ∙ sym (append-assoc pre (set level j new) (sumsOf d (pairs (set level j new)))) ∙ ap (λ (l : List ℕ). (pre ++ set level j new) ++ sumsOf d l) (o .changed ∙ ap (set (pairs level) (j / 2)) (omega (arith, o .more)));
-    full = length-pairs (leaves d) level (full ∙ sym (double-is (leaves d)));
-    place = simp (length-append, length-set) (omega arith);
-    here = simp (length-append, length-set) (omega arith);
-    inside = omega arith;
-    low = omega (arith, o .more);
-    few = omega (arith, sum-pairs level);
-  }
+  -- the way up from place j of a level under true sums: they are true over the level with j changed
+  changed-from : (d : ℕ) (pre level : List ℕ) (j : ℕ) → length level ≡ leaves d → length pre + (leaves d + leaves d) ≡ N + N → j < leaves d → old ≤ getD level j 0 → sum level ≤ N
+      → changedUp N (lessWord v old) (suc d) (pre ++ sumsOf d level) (length pre + j) ≡ pre ++ sumsOf d (set level j (getD level j 0 + v - old))
+  unfolding changedUp sumsOf leaves
+  changed-from zero pre level j full place inside low few =
+      from-row N (lessWord v old) 1 (ap (λ (l : List ℕ). pre ++ l) (sym (append-nil level))) refl
+      ∙ changed-level pre level [] j (omega arith) low few
+      ∙ ap (λ (l : List ℕ). pre ++ l) (append-nil (set level j (getD level j 0 + v - old)))
+  changed-from (suc d) pre level j full place inside low few =
+      from-row N (lessWord v old) (suc d) (changed-level pre level (sumsOf d (pairs level)) j (omega arith) low few ∙ sym (append-assoc pre (set level j new) (sumsOf d (pairs level)))) up
+      ∙ changed-from d (pre ++ set level j new) (pairs level) (j / 2) half (simp (length-append, length-set) (omega arith)) (omega arith) (omega (arith, o .more)) (omega (arith, sum-pairs level))
+      ∙ ap (λ (l : List ℕ). (pre ++ set level j new) ++ sumsOf d l) (sym (o .changed ∙ ap (set (pairs level) (j / 2)) (omega (arith, o .more))))
+      ∙ append-assoc pre (set level j new) (sumsOf d (pairs (set level j new)))
     where
       new : ℕ
       new = getD level j 0 + v - old
 
-      rest : List ℕ
-      rest = sumsOf d (pairs level)
-
-      got : getD A p 0 ≡ getD level j 0
-      got = get-level A pre level rest p j split here (omega arith)
-
       o : Over level j (j / 2) new
       o = over level j new (omega arith)
 
-  -- one turn below the root
-  put-any : (pre level : List ℕ) (d j : ℕ)
-      → A ≡ pre ++ sumsOf d level → T ≡ pre ++ sumsOf d (set level j (getD level j 0 + v - old))
-      → length level ≡ leaves d → length pre + (leaves d + leaves d) ≡ N + N → p ≡ length pre + j → j < leaves d
-      → old ≤ getD level j 0 → sum level ≤ N
-      → p + 2 < N + N → Put N T v old (set A p (getD A p 0 + v - old)) (N + p / 2)
-  unfolding leaves
-  put-any pre level zero j split goal full place here inside low few h = absurd (omega arith)
-  put-any pre level (suc d) j split goal full place here inside low few h = put-more pre level d j split goal full place here inside low few
+      half : length (pairs level) ≡ leaves d
+      half = length-pairs (leaves d) level (full ∙ sym (double-is (leaves d)))
+
+      up : N + (length pre + j) / 2 ≡ length (pre ++ set level j new) + j / 2
+      up = simp (length-append, length-set) (omega arith)
+
+-- the way up from leaf s of true sums: they are true over the leaves with s set
+changed-trued : (d N : ℕ) (S : List ℕ) (s v : ℕ) → Trued d N S → leaves d ≡ N → s < N → N + v < 2 ^ 32
+    → changedUp N (lessWord v (getD S s 0)) (suc d) S s ≡ sumsOf d (set (take N S) s v)
+changed-trued d N S s v t e h fits =
+    from-row N (lessWord v (getD S s 0)) (suc d) (t .true-sums) (omega arith)
+    ∙ changed-from N (getD S s 0) v fits d [] (take N S) s (t .full ∙ sym e) (omega arith) (omega arith) (omega (arith, same)) (t .few)
+    ∙ ap (λ (x : ℕ). sumsOf d (set (take N S) s x)) (omega (arith, same))
+  where
+    same : getD (take N S) s 0 ≡ getD S s 0
+    same = getD-take N S s 0 h
+
+-- a mark of true sums is set: the sums over the marks with that one set
+pub put-trued : (S : List ℕ) (s v : ℕ) → Trued levels slotCount S → s < slotCount → v ≤ 1 → markPut S s v ≡ sumsOf levels (set (marksIn S) s v)
+unfolding markPut
+put-trued S s v t h one = rw (lt-ltb s slotCount h) (changed-trued levels slotCount S s v t full h (omega arith))
+
+-- a mark of true sums moves from slot k to slot n
+pub put-moved : (S : List ℕ) (k n : ℕ) → Trued levels slotCount S → k < slotCount → n < slotCount → markPut (markPut S k 0) n 1 ≡ sumsOf levels (set (set (marksIn S) k 0) n 1)
+put-moved S k n t hk hn =
+    ap (λ (l : List ℕ). markPut l n 1) (put-trued S k 0 t hk (omega arith))
+    ∙ put-trued (sumsOf levels (set (marksIn S) k 0)) n 1 (trued-set levels slotCount S k 0 t full (omega (arith, t .few))) hn (omega arith)
+    ∙ ap (λ (l : List ℕ). sumsOf levels (set l n 1)) (take-sums-set levels slotCount S k 0 t full)
+
+-- no slot
+pub put-past : (S : List ℕ) (s v : ℕ) → slotCount ≤ s → markPut S s v ≡ S
+unfolding markPut
+put-past S s v h = rw (le-ltb s slotCount h)
+
+-- where the change has come: at p, with d words left on the way up, A becomes T
+pub record Changing (N c : ℕ) (T A : List ℕ) (p : ℕ) : Type 0 where
+  pub d : ℕ
+  pub low : N + N ≤ p + leaves d
+  pub high : p + p + leaves d < N + N + (N + N)
+  pub left : changedUp N c d A p ≡ T
+
+-- the start, at slot s
+pub changing-start : (S : List ℕ) (s v c : ℕ) → s < slotCount → c ≡ lessWord v (getD S s 0) → Changing slotCount c (markPut S s v) S s
+unfolding markPut leaves
+changing-start S s v c h e = record {
+  d = levels + 1;
+  low = omega arith;
+  high = omega arith;
+  left = rw (lt-ltb s slotCount h, e);
+}
+
+module _ (N c : ℕ) (T A : List ℕ) (p : ℕ) where
+  -- one turn up to the root
+  changing-any : (d : ℕ) → N + N ≤ p + leaves d → p + p + leaves d < N + N + (N + N) → changedUp N c d A p ≡ T
+      → p + 1 < N + N → Changing N c T (set A p ((getD A p 0 + c) % 2 ^ 32)) (N + p / 2)
+  unfolding leaves changedUp
+  changing-any zero low high left h = absurd (omega arith)
+  changing-any (suc d) low high left h = record { d = d; low = omega arith; high = omega arith; left = left }
 
   -- one turn of the change
-  pub put-turn : Put N T v old A p → p + 2 < N + N → Put N T v old (set A p (getD A p 0 + v - old)) (N + p / 2)
-  put-turn u h = put-any (u .pre) (u .level) (u .d) (u .j) (u .split) (u .goal) (u .full) (u .place) (u .here) (u .inside) (u .low) (u .few) h
+  pub changing-turn : Changing N c T A p → p + 1 < N + N → Changing N c T (set A p ((getD A p 0 + c) % 2 ^ 32)) (N + p / 2)
+  changing-turn u h = changing-any (u .d) (u .low) (u .high) (u .left) h
 
-  -- at the root all is changed
-  put-stop : (pre level : List ℕ) (d j : ℕ)
-      → A ≡ pre ++ sumsOf d level → T ≡ pre ++ sumsOf d (set level j (getD level j 0 + v - old))
-      → length level ≡ leaves d → length pre + (leaves d + leaves d) ≡ N + N → p ≡ length pre + j → j < leaves d
-      → N + N ≤ p + 2 → (p + 2 ≡ N + N) × (set A p (getD A p 0 + v - old) ≡ T)
-  unfolding leaves sumsOf
-  put-stop pre level zero j split goal full place here inside h =
-      let got = get-level A pre level [] p j (split ∙ ap (λ (l : List ℕ). pre ++ l) (sym (append-nil level))) here (omega arith) in (
-        omega arith,
-        set-level A pre level [] p j (split ∙ ap (λ (l : List ℕ). pre ++ l) (sym (append-nil level))) here (omega arith) (getD A p 0 + v - old)
-            ∙ ap (λ (l : List ℕ). pre ++ l) (append-nil (set level j (getD A p 0 + v - old)))
-            ∙ ap (λ (x : ℕ). pre ++ set level j x) (omega (arith, got))
-            ∙ sym goal,
-      )
-  put-stop pre level (suc d) j split goal full place here inside h = absurd (let l = leaves-pos d in omega arith)
+  -- over the root nothing is left
+  changing-stop : (d : ℕ) → p + p + leaves d < N + N + (N + N) → changedUp N c d A p ≡ T → N + N ≤ p + 1 → A ≡ T
+  unfolding leaves changedUp
+  changing-stop zero high left h = left
+  changing-stop (suc d) high left h = absurd (omega (arith, leaves-pos d))
 
-  -- the last turn, at the root
-  pub put-end : Put N T v old A p → N + N ≤ p + 2 → (p + 2 ≡ N + N) × (set A p (getD A p 0 + v - old) ≡ T)
-  put-end u h = put-stop (u .pre) (u .level) (u .d) (u .j) (u .split) (u .goal) (u .full) (u .place) (u .here) (u .inside) h
-
-  -- the sum at p is that of its level
-  put-got : (pre level : List ℕ) (d j : ℕ) → A ≡ pre ++ sumsOf d level → length level ≡ leaves d → p ≡ length pre + j → j < leaves d → getD A p 0 ≡ getD level j 0
-  unfolding sumsOf
-  put-got pre level zero j split full here inside = get-level A pre level [] p j (split ∙ ap (λ (l : List ℕ). pre ++ l) (sym (append-nil level))) here (omega arith)
-  put-got pre level (suc d) j split full here inside = get-level A pre level (sumsOf d (pairs level)) p j split here (omega arith)
-
-  -- the sum at p holds what the leaf held, and no more than N
-  pub put-range : Put N T v old A p → (old ≤ getD A p 0) × (getD A p 0 ≤ N)
-  put-range u =
-      let got = put-got (u .pre) (u .level) (u .d) (u .j) (u .split) (u .full) (u .here) (u .inside) in
-      let most = at-le-sum (u .level) (u .j) in
-      (omega (arith, u .low), omega (arith, u .few))
-
-  -- at the end the change has come to the root
-  pub put-root : Put N T v old A p → N + N ≤ p + 2 → Put N T v old A (N + N - 2)
-  put-root u h = subst (λ (k : ℕ). Put N T v old A k) (omega (arith, put-end u h .0)) u
+  -- over the root all is changed
+  pub changing-end : Changing N c T A p → N + N ≤ p + 1 → A ≡ T
+  changing-end u h = changing-stop (u .d) (u .high) (u .left) h

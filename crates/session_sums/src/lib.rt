@@ -6,6 +6,7 @@ ghost use Rattle.reuse.specs.Lists.{sum};
 ghost use Rattle.reuse.specs.Limits.{slotCount, sumCount, levels};
 ghost use Rattle.session_sums.specs.Sums.{sumsOf, marksIn, trueSums, firstMarks};
 ghost use Rattle.session_sums.specs.Walks.{walkedUp};
+ghost use Rattle.session_sums.specs.Changes.{markPut};
 use reuse::SLOTS;
 use reuse::SUMS;
 
@@ -45,6 +46,21 @@ pub fn above(sums: &[u32], s: usize) -> Walked
     Walked {
         total: total,
         count: count,
+    }
+}
+
+// The mark of slot s becomes v, and each sum over it changes by as much, modulo 2^32; nothing where s is no slot.
+pub fn put_mark(sums: &mut [u32; SUMS], s: usize, v: u32)
+    ensures { λ _. ⌜ now (sums .exit) ≡ markPut (now (sums .entry)) s v ⌝ }
+{
+    if SLOTS <= s {
+        return;
+    }
+    let change = std::num::wrapping_sub_u32(v, sums[s]);
+    let mut p = s;
+    while p < SUMS {
+        sums[p] = std::num::wrapping_add_u32(sums[p], change);
+        p = SLOTS + p / 2;
     }
 }
 

@@ -1,5 +1,5 @@
 -- `session::Session::entered` meets its contract. From what `put_mark` ensures.
-use mathlib.Core.Path.{refl}
+use mathlib.Core.Path.{refl, _∙_}
 use Prim.Native.Nat.{_-_}
 use native.Mathlib.Omega.{arith}
 use native.Mathlib.Numerals.{add-one}
@@ -7,6 +7,7 @@ use Rattle.reuse.specs.Limits.{slotCount, levels}
 use Rattle.session.specs.Sessions.{marks, extents}
 use Rattle.session.specs.Reads.{entered}
 use Rattle.session_sums.proofs.Tree.{leaves, trued-root}
+use Rattle.session_sums.proofs.Changes.{put-trued}
 use borrow.Author.Needs.{needs}
 use Rattle.session.proofs.Session.entered.Statement.{statement}
 use Rattle.session.proofs.Session.entered.Tie as tie
@@ -45,7 +46,9 @@ add-self-2 c = search needs
 
 returns : tie.Need-returns
 unfolding leaves extents marks entered
-returns c = simp (add-one, trued-root levels slotCount _ (c .before .before .before .pre .trued) refl, c .put-mark .ensures)
+returns c =
+    let p = c .before .before .before .pre in
+    simp (add-one, trued-root levels slotCount _ (p .trued) refl, c .put-mark .ensures ∙ put-trued _ _ 1 (p .trued) (p .room) (omega arith))
 
 pub entered-spec : {M : Type 1} → statement M
 entered-spec =

@@ -1,18 +1,23 @@
 -- `session::Session::moved` meets its contract. From what `above` and `put_mark` ensure.
-use mathlib.Core.Path.{_≡_, refl, sym, ap, subst, _∙_}
+use mathlib.Core.Path.{_≡_, ap, _∙_}
 use mathlib.Core.List.{List}
-use Prim.Native.Nat.{ℕ, suc, _-_, _<_}
+use Prim.Native.Nat.{ℕ, suc, _+_, _-_, _<_}
 use native.Mathlib.Omega.{arith}
 use native.Mathlib.Numerals.{add-one}
 use lib.ListN.{drop, set, getD}
-use Rattle.reuse.specs.Limits.{maxExtents, slotCount, levels}
+use Rattle.reuse.specs.Limits.{maxExtents, levels}
 use Rattle.reuse.specs.Lists.{sum}
+use Rattle.reuse.specs.Lru.{at}
 use Rattle.session_sums.specs.declared.Walked.{Walked}
-use Rattle.session_sums.specs.Sums.{sumsOf, marksIn, zeros, Trued}
-use Rattle.session.specs.Sessions.{marks, extents}
-use Rattle.session.specs.Reads.{moved}
-use Rattle.session_sums.proofs.Tree.{full, trued-set, take-sums-set}
+use Rattle.session_sums.specs.Sums.{sumsOf, marksIn, zeros}
+use Rattle.session_sums.specs.Changes.{markPut}
+use Rattle.session.specs.declared.Session.{Session}
+use Rattle.session.specs.declared.Step.{Step}
+use Rattle.session.specs.declared.Answer.the-variants.{Distance}
+use Rattle.session.specs.Sessions.{marks}
+use Rattle.session.specs.Reads.{slotOf, moved, stepAt}
 use Rattle.session_sums.proofs.Walks.{walked-trued}
+use Rattle.session_sums.proofs.Changes.{put-moved}
 use borrow.Author.Needs.{needs}
 use Rattle.session.proofs.Session.moved.Statement.{statement}
 use Rattle.session.proofs.Session.moved.Tie as tie
@@ -35,32 +40,51 @@ total c = ap (λ (w : Walked). w .total) (walked c)
 small : (c : tie.After-above) → c .above .result .total < maxExtents
 small c = omega (arith, total c, start c .pre .behind)
 
+-- the step, of what the walk read and the sums with the mark moved
+moved-step : (s : Session) (x k : ℕ) (w : Walked) (sums : List ℕ)
+    → k ≡ slotOf s x → w ≡ record { total = sum (drop (suc k) (marks s)); count = zeros levels k } → sums ≡ sumsOf levels (set (set (marks s) k 0) (s .next) 1)
+    → _≡_ {A = Step}
+    (record {
+      session = record {
+        reads = s .reads + 1;
+        first = s .first;
+        hist = set (s .hist) (w .total) (getD (s .hist) (w .total) 0 + 1);
+        slots = set (set (s .slots) k 0) (s .next) x;
+        sums = sums;
+        next = s .next + 1;
+      };
+      answer = Distance (w .total + 1) (w .count);
+    })
+    (stepAt s x (at (suc (sum (drop (suc k) (marks s))))))
+unfolding moved
+moved-step s x k w sums here read put =
+    let n = sum (drop (suc k) (marks s)) in
+    let back : suc n - 1 ≡ n = omega arith in
+    simp (add-one, ← here, back, read, put)
+
 above-requires : tie.Need-above-requires
 above-requires c κs = search needs
 
 cast-next : tie.Need-cast-next
-cast-next c = search needs
+cast-next c = omega arith
 
 put-mark-requires : tie.Need-put-mark-requires
 put-mark-requires c κs = search needs
 
 put-mark-requires-2 : tie.Need-put-mark-requires-2
-unfolding extents marks
-put-mark-requires-2 c κs =
-    let h = start (c .before .before .before) .pre in
-    (h .room, omega arith, subst (λ (l : List ℕ). Trued levels slotCount l) (sym (c .before .put-mark .ensures)) (trued-set levels slotCount _ _ 0 (h .trued) full (omega (arith, h .few))))
+put-mark-requires-2 c κs = search needs
 
 mul-self : tie.Need-mul-self
-mul-self c = search needs
+mul-self c = omega arith
 
 element-write-self : tie.Need-element-write-self
-element-write-self c = search needs
+element-write-self c = omega arith
 
 mul-self-2 : tie.Need-mul-self-2
-mul-self-2 c = search needs
+mul-self-2 c = omega arith
 
 element-write-self-2 : tie.Need-element-write-self-2
-element-write-self-2 c = search needs
+element-write-self-2 c = omega arith
 
 mul-self-3 : tie.Need-mul-self-3
 mul-self-3 c = omega (arith, small (c .before .before .before .before))
@@ -80,10 +104,10 @@ element-write-self-3 : tie.Need-element-write-self-3
 element-write-self-3 c = omega (arith, small (c .before .before .before .before .before))
 
 add-self-2 : tie.Need-add-self-2
-add-self-2 c = search needs
+add-self-2 c = omega arith
 
 add-self-3 : tie.Need-add-self-3
-add-self-3 c = search needs
+add-self-3 c = omega arith
 
 cast-t10 : tie.Need-cast-t10
 cast-t10 c = omega (arith, small (c .before .before .before .before .before))
@@ -92,18 +116,16 @@ add-t21 : tie.Need-add-t21
 add-t21 c = omega (arith, small (c .before .before .before .before .before))
 
 returns : tie.Need-returns
-unfolding marks moved
+unfolding marks
 returns c =
     let a = c .before .before .before .before .before in
     let p = start a .pre in
     let s = start a .args .t1 in
     let k = start a .args .k in
-    let n = sum (drop (suc k) (marksIn (s .sums))) in
-    let back : suc n - 1 ≡ n = omega arith in
-    let e : c .before .put-mark2 .last .0 ≡ sumsOf levels (set (set (marksIn (s .sums)) k 0) (s .next) 1) =
-    c .before .put-mark2 .ensures
-    ∙ ap (λ (l : List ℕ). sumsOf levels (set l (s .next) 1)) (ap (marksIn) (c .before .before .before .put-mark .ensures) ∙ take-sums-set levels slotCount (s .sums) k 0 (p .trued) full) in
-    simp (add-one, ← p .here, back, walked a, e)
+    moved-step s (start a .args .x) k (a .above .result) (c .before .put-mark2 .last .0) (p .here) (walked a)
+    (c .before .put-mark2 .ensures
+    ∙ ap (λ (l : List ℕ). markPut l (s .next) 1) (c .before .before .before .put-mark .ensures)
+    ∙ put-moved (s .sums) k (s .next) (p .trued) (omega (arith, p .below, p .room)) (p .room))
 
 pub moved-spec : {M : Type 1} → statement M
 moved-spec =
