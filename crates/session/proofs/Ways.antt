@@ -68,7 +68,6 @@ module _ (s : Session) (k : Kept s) where
       below = slot-below s k x t;
       room = room;
       trued = kept-trued s k;
-      few = kept-few s k;
       behind = behind;
       counted = omega (arith, at-le-sum (s .hist) (sum (drop (suc (slotOf s x)) (marks s))), k .rows .total);
       short = short;

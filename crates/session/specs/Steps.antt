@@ -17,7 +17,6 @@ pub record Movable (s : Session) (x k : ℕ) : Type 0 where
   pub below : k < s .next
   pub room : s .next < slotCount
   pub trued : Trued levels slotCount (s .sums)
-  pub few : extents s ≤ maxExtents
   pub behind : sum (drop (suc k) (marks s)) < maxExtents
   pub counted : getD (s .hist) (sum (drop (suc k) (marks s))) 0 ≤ maxReads
   pub short : s .reads < maxReads
