@@ -2,10 +2,10 @@
 mod long;
 mod pieces;
 mod report;
-mod short;
+mod stored;
 
-// The short texts, then the long ones.
+// The stored texts, then the longest ones.
 fn main() {
-    short::all();
+    stored::all();
     long::all();
 }

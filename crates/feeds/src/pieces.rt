@@ -27,10 +27,10 @@ fn by_three(text: &[u8], a: usize, b: usize) -> Page
     third.finish()
 }
 
-// The first n bytes, or none where there are fewer.
-pub fn front<'a>(bytes: &'a [u8], n: usize) -> &'a [u8] {
-    if n <= bytes.len() {
-        return &bytes[0..n];
+// The bytes from one place up to another, or none where there are not so many.
+pub fn part<'a>(bytes: &'a [u8], from: usize, to: usize) -> &'a [u8] {
+    if from <= to && to <= bytes.len() {
+        return &bytes[from..to];
     }
     &bytes[0..0]
 }
@@ -43,7 +43,7 @@ fn cut_at(text: &[u8], b: usize, wanted: &[u8], agree: bool) -> u64
     for a in 0..=b {
         let page = by_three(text, a, b);
         let bytes = page.bytes;
-        let same = check::same(front(&bytes, page.len), wanted);
+        let same = check::same(part(&bytes, 0, page.len), wanted);
         n = std::num::wrapping_add_u64(n, (same == agree) as u64);
     }
     n

@@ -21,7 +21,7 @@ fn counts(agree: u64, differ: u64) {
 pub fn text(name: &[u8], text: &[u8]) {
     let page = pieces::by_bytes(text);
     let bytes = page.bytes;
-    let wanted = pieces::front(&bytes, page.len);
+    let wanted = pieces::part(&bytes, 0, page.len);
     output(name, wanted);
     counts(
         pieces::cuttings(text, wanted, true),

@@ -46,11 +46,11 @@ feed-requires-3 c κs = search needs
 finish-requires : tie.Need-finish-requires Inv-loop μ-loop
 finish-requires c κs = search needs
 
-slice-aggregate-front : tie.Need-slice-aggregate-front Inv-loop μ-loop
-slice-aggregate-front c = search needs
+slice-aggregate-part : tie.Need-slice-aggregate-part Inv-loop μ-loop
+slice-aggregate-part c = search needs
 
-front-requires : tie.Need-front-requires Inv-loop μ-loop
-front-requires c κs = search needs
+part-requires : tie.Need-part-requires Inv-loop μ-loop
+part-requires c κs = search needs
 
 output-requires : tie.Need-output-requires Inv-loop μ-loop
 output-requires c κs = search needs
@@ -76,7 +76,7 @@ of-reads-spec =
     slice-aggregate-feed-3
     feed-requires-3
     finish-requires
-    slice-aggregate-front
-    front-requires
+    slice-aggregate-part
+    part-requires
     output-requires
     returns)

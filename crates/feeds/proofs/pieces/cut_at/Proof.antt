@@ -16,11 +16,11 @@ loop-holds c = search needs
 by-three-requires : tie.Need-by-three-requires Inv-loop μ-loop
 by-three-requires c κs = search needs
 
-slice-aggregate-front : tie.Need-slice-aggregate-front Inv-loop μ-loop
-slice-aggregate-front c = search needs
+slice-aggregate-part : tie.Need-slice-aggregate-part Inv-loop μ-loop
+slice-aggregate-part c = search needs
 
-front-requires : tie.Need-front-requires Inv-loop μ-loop
-front-requires c κs = search needs
+part-requires : tie.Need-part-requires Inv-loop μ-loop
+part-requires c κs = search needs
 
 same-requires : tie.Need-same-requires Inv-loop μ-loop
 same-requires c κs = search needs
@@ -54,8 +54,8 @@ cut-at-spec =
     μ-loop
     loop-holds
     by-three-requires
-    slice-aggregate-front
-    front-requires
+    slice-aggregate-part
+    part-requires
     same-requires
     cast-wrapping-add-u64
     wrapping-add-u64-requires
