@@ -31,6 +31,7 @@ fn the_caches_that_read_a_trace() {
     let mut random = Random::new(51);
     let mut traces = made::all_traces(6, &[0, 4096, u32::MAX]);
     traces.extend((0..120).map(|_| made::trace(&mut random, 300, 30)));
+    traces.extend((0..120).map(|_| made::trace(&mut random, 1200, 256)));
     for trace in traces {
         let words = summary::of(&trace);
         for size in sizes(&words) {
@@ -40,7 +41,7 @@ fn the_caches_that_read_a_trace() {
             tally.same(bits(calls::share(&words, size)), bits(Ok(share)), &(&trace, size));
         }
     }
-    tally.at_least(20_000);
+    tally.at_least(37_000);
 }
 
 #[test]

@@ -36,6 +36,7 @@ fn the_caches_that_read_a_trace() {
     let mut random = Random::new(161);
     let mut traces = made::all_traces(5, &[0, 4096, u32::MAX]);
     traces.extend((0..60).map(|_| made::trace(&mut random, 900, 40)));
+    traces.extend((0..120).map(|_| made::trace(&mut random, 1200, 256)));
     traces.push((0..1500).map(|read| read * 7 % 256).collect());
     for trace in traces {
         let mut words = calls::session_new(WORDS).expect("a new session");
@@ -49,7 +50,7 @@ fn the_caches_that_read_a_trace() {
             tally.same(bits(calls::session_share(&words, size)), bits(Ok(share)), &(&trace, size));
         }
     }
-    tally.at_least(7000);
+    tally.at_least(9500);
 }
 
 #[test]

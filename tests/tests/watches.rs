@@ -109,10 +109,11 @@ fn random_words() {
 fn watches_of_traces() {
     let mut tally = Tally::new("watches and caches");
     let mut random = Random::new(102);
-    for _ in 0..150 {
-        let reads = made::trace(&mut random, 200, 20);
+    for round in 0..300 {
+        let (most_reads, most_extents) = if round % 2 == 0 { (200, 20) } else { (1200, 256) };
+        let reads = made::trace(&mut random, most_reads, most_extents);
         let distances = trace::distances(&reads);
-        let size = random.of(&[0, 1, 2, 3, 5, 8, 13, 21, u32::MAX]);
+        let size = random.of(&[0, 1, 2, 3, 5, 8, 13, 21, 34, 55, 89, 144, 200, 255, 256, u32::MAX]);
         let mut words = calls::watch_new(size, 4).expect("a new watch");
         for distance in &distances {
             let mut wanted = words.clone();
@@ -124,5 +125,5 @@ fn watches_of_traces() {
         tally.same(calls::watch_misses(&words), Ok(misses), &(&reads, size));
         tally.same(calls::watch_share(&words), Ok(share), &(&reads, size));
     }
-    tally.at_least(20_000);
+    tally.at_least(190_000);
 }

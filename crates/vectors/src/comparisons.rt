@@ -1,13 +1,12 @@
-// Logs read by sessions, by watches and by simulated caches of several sizes.
+// Logs read by sessions and by simulated caches of several sizes: a read is a hit exactly if its distance is at most the size.
 ghost use Prim.Native.Nat.{_≤_};
-use crate::answers;
 use crate::cache;
 use crate::count::Count;
 use crate::logs;
 use crate::words;
 use reuse::MAX_EXTENTS;
+use session::Answer;
 use session::Session;
-use watch::Watch;
 
 // How many logs there are; log k has ten times k reads.
 const LOGS: usize = 120;
@@ -18,104 +17,39 @@ const READS: usize = 1200;
 // How many sizes there are.
 const SIZES: usize = 16;
 
-// The words of the longest summary.
-const SUMMARY: usize = 2 + 3 * MAX_EXTENTS;
-
-// The comparisons of each kind.
-pub struct Compared {
-    pub hits: Count,
-    pub misses: Count,
-    pub shares: Count,
-    pub watches: Count,
-}
-
-// A log read so far: the session, the watch on one size, the hits of the simulated cache of that size, and its hits compared.
-struct Run {
-    session: Session,
-    watch: Watch,
-    hits: u32,
-    compared: Count,
-}
-
-// One more read, which the simulated cache hits or not.
-fn step(run: Run, size: u32, x: u32, hit: bool) -> Run {
-    let read = run.session.read(x);
-    let answer = read.answer;
-    let session = read.session;
-    let same = hit == answers::is_within(answer, size);
-    Run {
-        session,
-        watch: answers::after(run.watch, answer),
-        hits: std::num::wrapping_add_u32(run.hits, hit as u32),
-        compared: run.compared.tally(same),
+// Whether a read's answer is a distance of at most the size.
+fn is_within(answer: Answer, size: u32) -> bool {
+    match answer {
+        Answer::Cold => false,
+        Answer::Distance {
+            distance,
+            sums_read,
+        } => distance <= size,
+        Answer::Refused(_) => false,
     }
 }
 
-// A log read by a session, by a watch on one size and by a simulated cache of that size.
-fn read_all(log: &[u32], size: u32, count: Count) -> Run {
+// A log read by a session and by a simulated cache of one size.
+fn at_size(log: &[u32], size: u32, so_far: Count) -> Count {
     let mut held = [0u32; MAX_EXTENTS];
     let mut last = [0u32; MAX_EXTENTS];
     let places = cache::places(size);
-    let mut run = Run {
-        session: Session::new(),
-        watch: watch::new_watch(size),
-        hits: 0,
-        compared: count,
-    };
+    let mut session = Session::new();
+    let mut count = so_far;
     for i in 0..log.len() {
         let x = log[i];
         let time = std::num::wrapping_add_u32(words::narrow(i), 1);
         let hit = cache::read(&mut held, &mut last, places, x, time);
-        run = step(run, size, x, hit);
+        let step = session.read(x);
+        let answer = step.answer;
+        session = step.session;
+        count = count.tally(hit == is_within(answer, size));
     }
-    run
-}
-
-// The misses at one size, of a session and of its summary.
-fn misses_at(session: Session, words: &[u32], size: u32, misses: u32, count: Count) -> Count {
-    let c = count.tally(answers::are_misses(answers::misses_of(session, size), misses));
-    c.tally(answers::are_misses(summary::misses(words, size), misses))
-}
-
-// The hit shares at one size, of a session and of its summary.
-fn shares_at(
-    session: Session,
-    words: &[u32],
-    size: u32,
-    hits: u32,
-    reads: u32,
-    count: Count,
-) -> Count {
-    let c = count.tally(answers::is_share(answers::share_of(session, size), hits, reads));
-    c.tally(answers::is_share(summary::share(words, size), hits, reads))
-}
-
-// The misses and the hit share of a watch.
-fn watched(watch: Watch, hits: u32, reads: u32, misses: u32, count: Count) -> Count {
-    let c = count.tally(answers::are_misses(watch::misses(watch), misses));
-    c.tally(answers::is_share(watch::share(watch), hits, reads))
-}
-
-// One log at one size.
-fn at_size(log: &[u32], size: u32, so_far: Compared) -> Compared {
-    let mut buffer = [0u32; SUMMARY];
-    let all = read_all(log, size, so_far.hits);
-    let session = all.session;
-    let n = answers::summarize(session, &mut buffer);
-    let words = &buffer[0..n];
-    let reads = words::narrow(log.len());
-    let misses = std::num::wrapping_sub_u32(reads, all.hits);
-    let hits = all.compared;
-    Compared {
-        hits,
-        misses: misses_at(session, words, size, misses, so_far.misses),
-        shares: shares_at(session, words, size, all.hits, reads, so_far.shares),
-        watches: watched(all.watch, all.hits, reads, misses, so_far.watches),
-    }
+    count
 }
 
 // Log k at every size.
-fn one(k: usize, so_far: Compared) -> Compared
+fn one(k: usize, so_far: Count) -> Count
     requires { ⌜ k ≤ 120 ⌝ }
 {
     let sizes = [
@@ -147,13 +81,8 @@ fn one(k: usize, so_far: Compared) -> Compared
 }
 
 // All logs.
-pub fn all() -> Compared {
-    let mut c = Compared {
-        hits: Count::none(),
-        misses: Count::none(),
-        shares: Count::none(),
-        watches: Count::none(),
-    };
+pub fn all() -> Count {
+    let mut c = Count::none();
     for i in 0..LOGS {
         c = one(i, c);
     }

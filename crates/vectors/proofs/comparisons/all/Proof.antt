@@ -13,15 +13,6 @@ abbrev μ-loop : tie.MeasureT-loop
 none-requires : tie.Need-none-requires Inv-loop μ-loop
 none-requires c κs = search needs
 
-none-requires-2 : tie.Need-none-requires-2 Inv-loop μ-loop
-none-requires-2 c κs = search needs
-
-none-requires-3 : tie.Need-none-requires-3 Inv-loop μ-loop
-none-requires-3 c κs = search needs
-
-none-requires-4 : tie.Need-none-requires-4 Inv-loop μ-loop
-none-requires-4 c κs = search needs
-
 loop-holds : tie.Need-loop-holds Inv-loop μ-loop
 loop-holds c = search needs
 
@@ -47,9 +38,6 @@ all-spec =
     Inv-loop
     μ-loop
     none-requires
-    none-requires-2
-    none-requires-3
-    none-requires-4
     loop-holds
     one-requires
     add-i

@@ -1,23 +1,20 @@
--- `vectors::comparisons::read_all` is safe and ends.
+-- `vectors::comparisons::at_size` is safe and ends.
 use Prim.Native.Nat.{_-_, _<_}
 use borrow.Author.Needs.{needs}
-use Rattle.vectors.proofs.comparisons.read_all.Statement.{statement}
-use Rattle.vectors.proofs.comparisons.read_all.Tie as tie
+use Rattle.vectors.proofs.comparisons.at_size.Statement.{statement}
+use Rattle.vectors.proofs.comparisons.at_size.Tie as tie
 
 abbrev Inv-loop : tie.InvT-loop
-Inv-loop log size held₀ last₀ places run₀ i₀ i-end held last run i = i-end < 18446744073709551616
+Inv-loop log size held₀ last₀ places session₀ count₀ i₀ i-end held last session count i = i-end < 18446744073709551616
 
 abbrev μ-loop : tie.MeasureT-loop
-μ-loop log size held₀ last₀ places run₀ i₀ i-end held last run i = i-end - i
+μ-loop log size held₀ last₀ places session₀ count₀ i₀ i-end held last session count i = i-end - i
 
 places-requires : tie.Need-places-requires Inv-loop μ-loop
 places-requires c κs = search needs
 
 new-requires : tie.Need-new-requires Inv-loop μ-loop
 new-requires c κs = search needs
-
-new-watch-requires : tie.Need-new-watch-requires Inv-loop μ-loop
-new-watch-requires c κs = search needs
 
 loop-holds : tie.Need-loop-holds Inv-loop μ-loop
 loop-holds c = search needs
@@ -37,8 +34,14 @@ wrapping-add-u32-requires c κs = search needs
 read-requires : tie.Need-read-requires Inv-loop μ-loop
 read-requires c κs = search needs
 
-step-requires : tie.Need-step-requires Inv-loop μ-loop
-step-requires c κs = search needs
+read-requires-2 : tie.Need-read-requires-2 Inv-loop μ-loop
+read-requires-2 c κs = search needs
+
+is-within-requires : tie.Need-is-within-requires Inv-loop μ-loop
+is-within-requires c κs = search needs
+
+tally-requires : tie.Need-tally-requires Inv-loop μ-loop
+tally-requires c κs = search needs
 
 add-i : tie.Need-add-i Inv-loop μ-loop
 add-i c = search needs
@@ -52,22 +55,23 @@ loop-again c = search needs
 returns : tie.Need-returns Inv-loop μ-loop
 returns c = search needs
 
-pub read-all-spec : {M : Type 1} → statement M
-read-all-spec =
+pub at-size-spec : {M : Type 1} → statement M
+at-size-spec =
     tie.close
     (tie.spec
     Inv-loop
     μ-loop
     places-requires
     new-requires
-    new-watch-requires
     loop-holds
     mul-x
     shared-slice-read-x
     narrow-requires
     wrapping-add-u32-requires
     read-requires
-    step-requires
+    read-requires-2
+    is-within-requires
+    tally-requires
     add-i
     loop-less
     loop-again
