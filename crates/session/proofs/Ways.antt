@@ -1,5 +1,5 @@
 -- The ways of a read: what its parts rely on, and what each of its returns answers.
-use Prim.Native.Nat.{ℕ, suc, _-_, _≤_, _<_}
+use Prim.Native.Nat.{ℕ, suc, _-_, _<_}
 use mathlib.Core.Path.{_≡_, refl, sym, ap, _∙_}
 use mathlib.Core.Bool.{true, false}
 use native.Mathlib.Omega.{arith}
@@ -45,7 +45,7 @@ module _ (s : Session) (k : Kept s) where
 
   -- what gathering relies on
   pub gatherable : Gatherable s
-  gatherable = record { slots-wide = kept-wide s k .slots-wide; trued = kept-trued s k; neat = row-tidy (k .rows .row); few = kept-few s k }
+  gatherable = record { slots-wide = kept-wide s k .slots-wide; trued = kept-trued s k; neat = row-tidy (k .rows .row) }
 
   module _ (x : ℕ) where
     -- an extent with no slot is not in the stack

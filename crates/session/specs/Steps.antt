@@ -33,4 +33,3 @@ pub record Gatherable (s : Session) : Type 0 where
   pub slots-wide : length (s .slots) ≡ slotCount
   pub trued : Trued levels slotCount (s .sums)
   pub neat : tidy (marks s) (s .slots) ≡ true
-  pub few : extents s ≤ maxExtents
