@@ -20,3 +20,11 @@ sumCount = 1_023
 -- the levels of that tree above its leaves, as many as a slot's number has binary digits
 abbrev pub levels : ℕ
 levels = 9
+
+-- the largest store that is split among customers
+abbrev pub maxStore : ℕ
+maxStore = 1_024
+
+-- the most customers of one store
+abbrev pub maxCustomers : ℕ
+maxCustomers = 8

@@ -1,6 +1,6 @@
 // Reuse distances: the definitions, their laws, and the limits.
 ghost use mathlib.Core.Path.{_≡_};
-ghost use Rattle.reuse.specs.Limits.{maxReads, maxExtents, slotCount, sumCount, levels};
+ghost use Rattle.reuse.specs.Limits.{maxReads, maxExtents, slotCount, sumCount, levels, maxStore, maxCustomers};
 
 // The most reads of a trace.
 pub const MAX_READS: u32 = 1048576;
@@ -12,6 +12,10 @@ pub const SLOTS: usize = 512;
 pub const SUMS: usize = 1023;
 // The levels of that tree above its leaves.
 pub const LEVELS: u32 = 9;
+// The largest store that is split among customers.
+pub const MAX_STORE: usize = 1024;
+// The most customers of one store.
+pub const MAX_CUSTOMERS: usize = 8;
 
 // The limits that the code works with.
 pub struct Bounds {
@@ -20,11 +24,13 @@ pub struct Bounds {
     pub slots: usize,
     pub sums: usize,
     pub levels: u32,
+    pub store: usize,
+    pub customers: usize,
 }
 
 // The limits, for callers that size their buffers by them.
 pub fn limits() -> Bounds
-    ensures { λ r. ⌜ r ≡ record { reads = maxReads; extents = maxExtents; slots = slotCount; sums = sumCount; levels = levels } ⌝ }
+    ensures { λ r. ⌜ r ≡ record { reads = maxReads; extents = maxExtents; slots = slotCount; sums = sumCount; levels = levels; store = maxStore; customers = maxCustomers } ⌝ }
 {
     Bounds {
         reads: MAX_READS,
@@ -32,5 +38,7 @@ pub fn limits() -> Bounds
         slots: SLOTS,
         sums: SUMS,
         levels: LEVELS,
+        store: MAX_STORE,
+        customers: MAX_CUSTOMERS,
     }
 }

@@ -1,0 +1,4 @@
+pub mod Split
+pub mod Tables
+pub mod Cuts
+pub mod Calls
