@@ -1,82 +1,26 @@
 -- What the steps of the search stand on, and what they leave.
-use Prim.Native.Nat.{ℕ, _-_, _*_, _≤_, _<_}
+use Prim.Native.Nat.{ℕ, suc, _+_, _-_, _*_, _≤_, _<_, _^_, min}
 use mathlib.Core.Path.{_≡_}
+use mathlib.Core.Logic.{_≢_}
 use mathlib.Core.List.{List, [], _∷_, _++_}
 use mathlib.Core.Bool.{true, cond}
 use lib.Dec.{eqb}
 use lib.ListN.{length, drop, getD}
-use Rattle.reuse.specs.Limits.{maxStore, maxCustomers}
+use Rattle.reuse.specs.Limits.{maxExtents, maxStore, maxCustomers}
 use Rattle.reuse.specs.Lists.{sum}
 use Rattle.reuse.specs.Summary.{extentsOf}
 use Rattle.split_calls.specs.Split.{splitMisses, splitOf}
-use Rattle.split_calls.specs.Tables.{firstFrom, chosen}
+use Rattle.split_calls.specs.Tables.{chosen}
 use Rattle.split_calls.specs.Cuts.{cutSummaries}
 use Rattle.split_calls.specs.Calls.{allFormed}
-use Rattle.split.specs.Rows.{rooms, Entries, Shares}
+use Rattle.split.specs.Rows.{sizes, rooms, Costs, Entries}
 
--- a row of shares for each customer, one after the other
-abbrev pub Picked : List (List ℕ) → List ℕ → ℕ → List ℕ → Type 0
-Picked [] leasts store picks = Unit {0}
-Picked (w ∷ ws) [] store picks = Unit {0}
-Picked (w ∷ ws) (least ∷ leasts) store picks = Shares w ws least leasts store picks × Picked ws leasts store (drop rooms picks)
-
--- customers whose table can be laid into a blank row
-pub record Laying (words leasts : List ℕ) (store : ℕ) (row picks : List ℕ) : Type 0 where
-  pub formed : allFormed (cutSummaries (length leasts) words) ≡ true
-  pub few : length leasts ≤ maxCustomers
-  pub fits : sum leasts ≤ store
-  pub small : store ≤ maxStore
-  pub row-long : store < length row
-  pub picks-long : rooms * length leasts ≤ length picks
-  pub blank : (t : ℕ) → getD row t 0 ≡ 0
-
--- their table
-pub record Laid (words leasts : List ℕ) (store r : ℕ) (row picks : List ℕ) : Type 0 where
-  pub least : r ≡ sum leasts
-  pub entries : Entries (cutSummaries (length leasts) words) leasts store row
-  pub picked : Picked (cutSummaries (length leasts) words) leasts store picks
-
--- rooms that can be looked through
-pub record Scanning (row : List ℕ) (low store : ℕ) : Type 0 where
-  pub forward : low ≤ store
-  pub inside : store < length row
-
--- the first with the store's misses
-abbrev pub Scanned : List ℕ → ℕ → ℕ → ℕ → Type 0
-Scanned row low store r = r ≡ firstFrom (λ t. eqb (getD row t 0) (getD row store 0)) low (store - low)
-
--- customers whose shares can be read off their rows
-pub record Choosing (picks : List ℕ) (total customers : ℕ) (shares : List ℕ) : Type 0 where
-  pub summaries : List (List ℕ)
-  pub leasts : List ℕ
-  pub store : ℕ
-  pub each : length summaries ≡ customers
-  pub many : length leasts ≡ customers
-  pub few : customers ≤ maxCustomers
-  pub fits : sum leasts ≤ total
-  pub within : total ≤ store
-  pub small : store ≤ maxStore
-  pub long : rooms * customers ≤ length picks
-  pub room : customers ≤ length shares
-  pub picked : Picked summaries leasts store picks
-
--- their shares at the front
-abbrev pub Chosen : (picks : List ℕ) (total customers : ℕ) (shares : List ℕ) → Choosing picks total customers shares → List ℕ → Type 0
-Chosen picks total customers shares g shares′ = shares′ ≡ chosen (g .summaries) (g .leasts) total ++ drop customers shares
-
--- what is not refused
-pub record Searching (store : ℕ) (leasts words shares : List ℕ) : Type 0 where
-  pub formed : allFormed (cutSummaries (length leasts) words) ≡ true
-  pub some : 0 < length leasts
-  pub few : length leasts ≤ maxCustomers
-  pub fits : sum leasts ≤ store
-  pub small : store ≤ maxStore
-  pub room : length leasts ≤ length shares
-
--- the split
-pub record Searched (store : ℕ) (leasts words shares : List ℕ) (r : ℕ) (shares′ : List ℕ) : Type 0 where
-  pub misses : r ≡ splitMisses (cutSummaries (length leasts) words) (splitOf (cutSummaries (length leasts) words) leasts store)
-  pub found : shares′ ≡ splitOf (cutSummaries (length leasts) words) leasts store ++ drop (length leasts) shares
+-- the table of these customers: the row of all of them, the first one's misses, and the table of the others
+abbrev pub Tabled : List (List ℕ) → List ℕ → ℕ → List ℕ → List ℕ → Type 0
+Tabled [] leasts store costs table = Entries [] leasts store table
+Tabled (w ∷ ws) [] store costs table = Entries (w ∷ ws) [] store table
+Tabled (w ∷ ws) (least ∷ leasts) store costs table =
+    Entries (w ∷ ws) (least ∷ leasts) store table × Costs w costs × Tabled ws leasts store (drop sizes costs) (drop rooms table)
 
 -- how many of the words are the first of n customers'
 abbrev pub ownWords : ℕ → List ℕ → ℕ
@@ -86,3 +30,84 @@ ownWords n words = cond (eqb n 1) (length words) (2 + 3 * extentsOf words)
 pub record Cuttable (words : List ℕ) (n : ℕ) : Type 0 where
   pub formed : allFormed (cutSummaries n words) ≡ true
   pub some : 0 < n
+
+-- customers whose table can be laid into a blank one
+pub record Laying (words leasts : List ℕ) (store : ℕ) (costs table : List ℕ) : Type 0 where
+  pub formed : allFormed (cutSummaries (length leasts) words) ≡ true
+  pub few : length leasts ≤ maxCustomers
+  pub fits : sum leasts ≤ store
+  pub small : store ≤ maxStore
+  pub costs-long : sizes * length leasts ≤ length costs
+  pub table-long : rooms * suc (length leasts) ≤ length table
+  pub blank : (t : ℕ) → getD table t 0 ≡ 0
+
+-- their least shares in all, and their table
+pub record Laid (words leasts : List ℕ) (store r : ℕ) (costs table : List ℕ) : Type 0 where
+  pub in-all : r ≡ sum leasts
+  pub tabled : Tabled (cutSummaries (length leasts) words) leasts store costs table
+
+-- rooms that can be looked through
+pub record Scanning (row : List ℕ) (low store : ℕ) : Type 0 where
+  pub forward : low ≤ store
+  pub inside : store < length row
+
+-- the first with as few misses as the store
+pub record Scanned (row : List ℕ) (low store r : ℕ) : Type 0 where
+  pub forward : low ≤ r
+  pub inside : r ≤ store
+  pub reached : getD row r 0 ≡ getD row store 0
+  pub first : (u : ℕ) → low ≤ u → u < r → getD row u 0 ≢ getD row store 0
+
+-- the misses of a customer with a share, and of the others with what is left of `left`
+abbrev pub withShare : List ℕ → List ℕ → ℕ → ℕ → ℕ
+withShare costs others left share = getD costs (min share maxExtents) 0 + getD others (left - share) 0
+
+-- rows in which some share from the least on reaches these misses
+pub record Seeking (costs others : List ℕ) (misses least left : ℕ) : Type 0 where
+  pub some : ℕ
+  pub low : least ≤ some
+  pub high : some ≤ left
+  pub reached : withShare costs others left some ≡ misses
+  pub costs-long : sizes ≤ length costs
+  pub others-long : left < length others
+  pub small : (share : ℕ) → least ≤ share → share ≤ some → withShare costs others left share < 2 ^ 32
+
+-- the first that does
+pub record Sought (costs others : List ℕ) (misses least left r : ℕ) : Type 0 where
+  pub low : least ≤ r
+  pub high : r ≤ left
+  pub reached : withShare costs others left r ≡ misses
+  pub first : (u : ℕ) → least ≤ u → u < r → withShare costs others left u ≢ misses
+
+-- customers whose shares of the room `left` can be read off their table
+pub record Choosing (leasts : List ℕ) (left : ℕ) (costs table shares : List ℕ) : Type 0 where
+  pub summaries : List (List ℕ)
+  pub store : ℕ
+  pub formed : allFormed summaries ≡ true
+  pub each : length summaries ≡ length leasts
+  pub few : length leasts ≤ maxCustomers
+  pub fits : sum leasts ≤ left
+  pub within : left ≤ store
+  pub small : store ≤ maxStore
+  pub costs-long : sizes * length leasts ≤ length costs
+  pub table-long : rooms * suc (length leasts) ≤ length table
+  pub room : length leasts ≤ length shares
+  pub tabled : Tabled summaries leasts store costs table
+
+-- their shares at the front
+abbrev pub Chosen : (leasts : List ℕ) (left : ℕ) (costs table shares shares′ : List ℕ) → Type 0
+Chosen leasts left costs table shares shares′ =
+    (g : Choosing leasts left costs table shares) → shares′ ≡ chosen (g .summaries) leasts left ++ drop (length leasts) shares
+
+-- a split that is not refused
+pub record Searching (store : ℕ) (leasts words shares : List ℕ) : Type 0 where
+  pub formed : allFormed (cutSummaries (length leasts) words) ≡ true
+  pub few : length leasts ≤ maxCustomers
+  pub fits : sum leasts ≤ store
+  pub small : store ≤ maxStore
+  pub room : length leasts ≤ length shares
+
+-- the split found
+pub record Searched (store : ℕ) (leasts words shares : List ℕ) (r : ℕ) (shares′ : List ℕ) : Type 0 where
+  pub misses : r ≡ splitMisses (cutSummaries (length leasts) words) (splitOf (cutSummaries (length leasts) words) leasts store)
+  pub found : shares′ ≡ splitOf (cutSummaries (length leasts) words) leasts store ++ drop (length leasts) shares

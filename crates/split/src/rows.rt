@@ -2,20 +2,18 @@
 ghost use mathlib.Core.Path.{_≡_};
 ghost use Prim.Native.Nat.{min};
 ghost use Rattle.summary_calls.specs.Shapes.{Given};
-ghost use Rattle.split.specs.Rows.{Costs, Tries, Least, Others, TakenIn};
+ghost use Rattle.split_calls.specs.Tables.{lowest};
+ghost use Rattle.split.specs.Rows.{together, CostRow, Tries, Fillable, Filled, Entering, Enters};
 use reuse::MAX_EXTENTS;
+use reuse::MAX_STORE;
 
 // The sizes from 0 to the most extents.
-const SIZES: usize = MAX_EXTENTS + 1;
-
-// The fewest misses in a room, and the first number of extents past the least share that reaches them.
-pub struct Found {
-    pub misses: u32,
-    pub extra: usize,
-}
+pub const SIZES: usize = MAX_EXTENTS + 1;
+// The rooms from 0 to the largest store.
+pub const ROOMS: usize = MAX_STORE + 1;
 
 // The smaller of two numbers.
-fn smaller(a: usize, b: usize) -> usize
+pub fn smaller(a: usize, b: usize) -> usize
     ensures { λ r. ⌜ r ≡ min a b ⌝ }
 {
     if a < b {
@@ -25,9 +23,9 @@ fn smaller(a: usize, b: usize) -> usize
 }
 
 // The misses of a summary's words at each size: running sums of H from its end.
-fn costs(words: &[u32]) -> [u32; SIZES]
+fn costs_of(words: &[u32]) -> [u32; SIZES]
     requires { ⌜ Given (now words) ⌝ }
-    ensures { λ r. ⌜ Costs (now (words .entry)) r ⌝ }
+    ensures { λ r. ⌜ CostRow (now (words .entry)) r ⌝ }
 {
     let v = words[1] as usize;
     let counts = 2 + 2 * v;
@@ -41,44 +39,45 @@ fn costs(words: &[u32]) -> [u32; SIZES]
     row
 }
 
-// The least of own[i] + others[left - i] for i up to `tries`, and the first i that reaches it.
-fn least_sum(own: &[u32], others: &[u32], left: usize, tries: usize) -> Found
+// The least of own[i] + others[left - i] for i up to `tries`. No early exit: the loop is vectorized.
+fn least_sum(own: &[u32], others: &[u32], left: usize, tries: usize) -> u32
     requires { ⌜ Tries (now own) (now others) left tries ⌝ }
-    ensures { λ r. ⌜ Least (now (own .entry)) (now (others .entry)) left tries r ⌝ }
+    ensures { λ r. ⌜ r ≡ lowest (together (now (own .entry)) (now (others .entry)) left) 0 tries ⌝ }
 {
-    let mut misses = own[0] + others[left];
-    let mut extra: usize = 0;
+    let mut least = own[0] + others[left];
     let mut i: usize = 0;
     while i < tries {
         i = i + 1;
         let m = own[i] + others[left - i];
-        if m < misses {
-            misses = m;
-            extra = i;
+        if m < least {
+            least = m;
         }
     }
-    Found {
-        misses: misses,
-        extra: extra,
+    least
+}
+
+// The table's first row from its second, in the rooms from `low` to the store: own[i] are the misses of the customer before the
+// others with i extents past its least share, and up to `span` of them save any.
+fn fill(own: &[u32], span: usize, least: usize, low: usize, store: usize, table: &mut [u32])
+    requires { ⌜ Fillable (now own) span least low store (now table) ⌝ }
+    ensures { λ _. ⌜ Filled (now (own .entry)) span least low store (now (table .entry)) (now (table .exit)) ⌝ }
+{
+    let mut t = low;
+    while t <= store {
+        let tries = smaller(t - low, span);
+        table[t] = least_sum(own, &table[ROOMS..], t - least, tries);
+        t = t + 1;
     }
 }
 
-// One customer more before the others: their row becomes that of it and them from the room that holds all least shares on,
-// and its share in each such room is noted.
-pub fn take_in(words: &[u32], least: usize, low: usize, store: usize, row: &mut [u32], picks: &mut [u32])
-    requires { ⌜ Given (now words) × Others least low store (now row) (now picks) ⌝ }
-    ensures { λ _. ⌜ (o : Others least low store (now (row .entry)) (now (picks .entry))) → TakenIn (now (words .entry)) least low store (now (row .entry)) (now (picks .entry)) o (now (row .exit)) (now (picks .exit)) ⌝ }
+// One customer more before the others: its misses at the front of `costs`, and the row of it and them at the front of the table.
+pub fn enter(words: &[u32], least: usize, low: usize, store: usize, costs: &mut [u32], table: &mut [u32])
+    requires { ⌜ Given (now words) × Entering least low store (now costs) (now table) ⌝ }
+    ensures { λ _. ⌜ Enters (now (words .entry)) least low store (now (costs .entry)) (now (table .entry)) (now (costs .exit)) (now (table .exit)) ⌝ }
 {
-    let own = costs(words);
+    let own = costs_of(words);
+    reuse_copies::put(costs, 0, &own);
     let v = words[1] as usize;
     let base = smaller(least, v);
-    let span = v - base;
-    let mut t = store + 1;
-    while low < t {
-        t = t - 1;
-        let tries = smaller(t - low, span);
-        let found = least_sum(&own[base..], row, t - least, tries);
-        row[t] = found.misses;
-        picks[t] = (least + found.extra) as u32;
-    }
+    fill(&own[base..], v - base, least, low, store, table);
 }

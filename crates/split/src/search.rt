@@ -1,15 +1,17 @@
 // The search: the table from the last customer back, the smallest room that reaches its fewest misses, and the shares from the
 // first customer on.
 ghost use mathlib.Core.Path.{_≡_};
-ghost use Rattle.split.specs.Search.{Laying, Laid, Choosing, Chosen, Searching, Searched, Scanned, Scanning, Cuttable, ownWords};
+ghost use Rattle.split.specs.Search.{ownWords, Cuttable, Laying, Laid, Scanning, Scanned, Seeking, Sought, Choosing, Chosen, Searching, Searched};
 use crate::rows;
+use crate::rows::ROOMS;
+use crate::rows::SIZES;
 use reuse::MAX_CUSTOMERS;
-use reuse::MAX_STORE;
+use reuse::MAX_EXTENTS;
 
-// The rooms from 0 to the largest store.
-const ROOMS: usize = MAX_STORE + 1;
-// A row of shares for each customer.
-const PICKS: usize = MAX_CUSTOMERS * ROOMS;
+// A row of misses for each customer.
+const COSTS: usize = MAX_CUSTOMERS * SIZES;
+// A row of the table for the customers from each one on, and one for none.
+const TABLE: usize = (MAX_CUSTOMERS + 1) * ROOMS;
 
 // How many of the words are the first customer's: 2 + 3v by its own v, all of them where it is the last.
 fn own_words(words: &[u32], customers: usize) -> usize
@@ -19,23 +21,23 @@ fn own_words(words: &[u32], customers: usize) -> usize
     if customers == 1 {
         return words.len();
     }
-    2 + 3 * words[1] as usize
+    let v = words[1] as usize;
+    2 + 3 * v
 }
 
-// The table of these customers: the fewest misses in each room that holds their least shares, and in the rows of `picks` the share
-// of each in each room. Their least shares in all.
-fn lay(words: &[u32], leasts: &[u32], store: usize, row: &mut [u32], picks: &mut [u32]) -> usize
-    requires { ⌜ Laying (now words) (now leasts) store (now row) (now picks) ⌝ }
-    ensures { λ r. ⌜ Laid (now (words .entry)) (now (leasts .entry)) store r (now (row .exit)) (now (picks .exit)) ⌝ }
+// The table of these customers, laid into a blank one from the last of them back: their least shares in all.
+fn lay(words: &[u32], leasts: &[u32], store: usize, costs: &mut [u32], table: &mut [u32]) -> usize
+    requires { ⌜ Laying (now words) (now leasts) store (now costs) (now table) ⌝ }
+    ensures { λ r. ⌜ Laid (now (words .entry)) (now (leasts .entry)) store r (now (costs .exit)) (now (table .exit)) ⌝ }
 {
     if leasts.len() == 0 {
         return 0;
     }
     let own = own_words(words, leasts.len());
-    let others = lay(&words[own..], &leasts[1..], store, row, &mut picks[ROOMS..]);
+    let others = lay(&words[own..], &leasts[1..], store, &mut costs[SIZES..], &mut table[ROOMS..]);
     let least = leasts[0] as usize;
     let low = least + others;
-    rows::take_in(&words[..own], least, low, store, row, picks);
+    rows::enter(&words[..own], least, low, store, costs, table);
     low
 }
 
@@ -51,19 +53,32 @@ fn smallest(row: &[u32], low: usize, store: usize) -> usize
     t
 }
 
-// Each customer's share of the room that those before it leave.
-fn choose(picks: &[u32], total: usize, customers: usize, shares: &mut [u32])
-    requires { ⌜ Choosing (now picks) total customers (now shares) ⌝ }
-    ensures { λ _. ⌜ (g : Choosing (now (picks .entry)) total customers (now (shares .entry))) → Chosen (now (picks .entry)) total customers (now (shares .entry)) g (now (shares .exit)) ⌝ }
+// The first share from the least on that, with the others' misses in what is left, reaches these misses.
+fn share_at(costs: &[u32], others: &[u32], misses: u32, least: usize, left: usize) -> usize
+    requires { ⌜ Seeking (now costs) (now others) misses least left ⌝ }
+    ensures { λ r. ⌜ Sought (now (costs .entry)) (now (others .entry)) misses least left r ⌝ }
 {
-    let mut left = total;
-    let mut k: usize = 0;
-    while k < customers {
-        let share = picks[k * ROOMS + left];
-        shares[k] = share;
-        left = left - share as usize;
-        k = k + 1;
+    let mut share = least;
+    let mut size = rows::smaller(share, MAX_EXTENTS);
+    while costs[size] + others[left - share] != misses {
+        share = share + 1;
+        size = rows::smaller(share, MAX_EXTENTS);
     }
+    share
+}
+
+// The customers' shares of the room `left`, from the first on, at the front of `shares`.
+fn choose(leasts: &[u32], left: usize, costs: &[u32], table: &[u32], shares: &mut [u32])
+    requires { ⌜ Choosing (now leasts) left (now costs) (now table) (now shares) ⌝ }
+    ensures { λ _. ⌜ Chosen (now (leasts .entry)) left (now (costs .entry)) (now (table .entry)) (now (shares .entry)) (now (shares .exit)) ⌝ }
+{
+    if leasts.len() == 0 {
+        return;
+    }
+    let least = leasts[0] as usize;
+    let share = share_at(costs, &table[ROOMS..], table[left], least, left);
+    shares[0] = share as u32;
+    choose(&leasts[1..], left - share, &costs[SIZES..], &table[ROOMS..], &mut shares[1..]);
 }
 
 // The misses in all of the best shares, which are put at the front of `shares`.
@@ -71,10 +86,10 @@ pub fn search(store: usize, leasts: &[u32], words: &[u32], shares: &mut [u32]) -
     requires { ⌜ Searching store (now leasts) (now words) (now shares) ⌝ }
     ensures { λ r. ⌜ Searched store (now (leasts .entry)) (now (words .entry)) (now (shares .entry)) r (now (shares .exit)) ⌝ }
 {
-    let mut row = [0u32; ROOMS];
-    let mut picks = [0u32; PICKS];
-    let low = lay(words, leasts, store, &mut row, &mut picks);
-    let total = smallest(&row, low, store);
-    choose(&picks, total, leasts.len(), shares);
-    row[store]
+    let mut costs = [0u32; COSTS];
+    let mut table = [0u32; TABLE];
+    let low = lay(words, leasts, store, &mut costs, &mut table);
+    let total = smallest(&table, low, store);
+    choose(leasts, total, &costs, &table, shares);
+    table[store]
 }

@@ -1,5 +1,5 @@
 -- Summaries end to end are found again by the cut.
-use mathlib.Core.Path.{_≡_, refl, ap}
+use mathlib.Core.Path.{_≡_, refl, sym, ap, _∙_}
 use Prim.Native.Nat.{ℕ, zero, suc, _+_, _-_, _*_, _≤_, _<_}
 use native.Mathlib.Omega.{arith}
 use mathlib.Core.List.{List, [], _∷_, _++_, flatten, append-nil, List·Memᴰ, List·Memᴰ·head, List·Memᴰ·tail}
@@ -99,3 +99,7 @@ pub first-short : (n : ℕ) (w : List ℕ) → 1 < n → (2 + 3 * extentsOf w �
 first-short n w h k =
     first-fails n w h
     (by-test (wellFormed (take (2 + 3 * extentsOf w) w)) (λ e. absurd (let r = first-fits w e in k (r .0) (r .1))) (λ e. e))
+
+-- summaries that pass the test: the first of more than one does not reach past the words
+pub own-fits : (n : ℕ) (w : List ℕ) → 1 < n → allFormed (cutSummaries n w) ≡ true → (2 + 3 * extentsOf w ≤ length w) × (extentsOf w ≤ maxExtents)
+own-fits n w h f = first-fits w (both _ _ (sym (formed-more n w h) ∙ f) .0)

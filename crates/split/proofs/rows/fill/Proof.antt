@@ -1,0 +1,95 @@
+use borrow.Author.Needs.{needs}
+use Rattle.split.proofs.rows.fill.Statement.{statement}
+use Rattle.split.proofs.rows.fill.Tie as tie
+use Rattle.split.proofs.rows.fill.Reads as reads
+use Rattle.split.proofs.rows.fill.Lts as lts
+use Rattle.split.proofs.rows.least_sum.Reads as least-sum-reads
+use Rattle.split.proofs.rows.smaller.Reads as smaller-reads
+
+abbrev Inv-loop : tie.InvT-loop
+Inv-loop own span least low store table₀ t₀ table t = ?
+
+abbrev μ-loop : tie.MeasureT-loop
+μ-loop own span least low store table₀ t₀ table t = ?
+
+-- src/rows.rt:66:5
+loop-holds : tie.Need-loop-holds Inv-loop μ-loop
+loop-holds c = search needs
+
+-- src/rows.rt:67:29
+sub-smaller : tie.Need-sub-smaller Inv-loop μ-loop
+sub-smaller c = search needs
+
+-- src/rows.rt:67:13
+smaller-requires : tie.Need-smaller-requires Inv-loop μ-loop
+smaller-requires c κs = search needs
+
+-- src/rows.rt:68:35
+sub-least-sum : tie.Need-sub-least-sum Inv-loop μ-loop
+sub-least-sum c = search needs
+
+-- src/rows.rt:68:35
+part-least-sum-start : tie.Need-part-least-sum-start Inv-loop μ-loop
+part-least-sum-start c = search needs
+
+-- src/rows.rt:68:35
+part-least-sum-end : tie.Need-part-least-sum-end Inv-loop μ-loop
+part-least-sum-end c = search needs
+
+-- src/rows.rt:68:52
+sub-least-sum-2 : tie.Need-sub-least-sum-2 Inv-loop μ-loop
+sub-least-sum-2 c = search needs
+
+-- src/rows.rt:68:20
+least-sum-requires : tie.Need-least-sum-requires Inv-loop μ-loop
+least-sum-requires c κs = search needs
+
+-- src/rows.rt:68:9
+mul-table : tie.Need-mul-table Inv-loop μ-loop
+mul-table c = search needs
+
+-- src/rows.rt:68:9
+slice-write-table : tie.Need-slice-write-table Inv-loop μ-loop
+slice-write-table c = search needs
+
+-- src/rows.rt:69:13
+add-t : tie.Need-add-t Inv-loop μ-loop
+add-t c = search needs
+
+-- src/rows.rt:66:5
+loop-less : tie.Need-loop-less Inv-loop μ-loop
+loop-less c = search needs
+
+-- src/rows.rt:66:5
+loop-again : tie.Need-loop-again Inv-loop μ-loop
+loop-again c = search needs
+
+-- src/rows.rt:61:1
+same-length : tie.Need-same-length Inv-loop μ-loop
+same-length c = search needs
+
+-- src/rows.rt:61:1
+returns : tie.Need-returns Inv-loop μ-loop
+returns c = search needs
+
+pub fill-spec : {M : Type 1} → statement M
+fill-spec =
+    tie.close
+    (tie.spec
+    Inv-loop
+    μ-loop
+    loop-holds
+    sub-smaller
+    smaller-requires
+    sub-least-sum
+    part-least-sum-start
+    part-least-sum-end
+    sub-least-sum-2
+    least-sum-requires
+    mul-table
+    slice-write-table
+    add-t
+    loop-less
+    loop-again
+    same-length
+    returns)
