@@ -1,13 +1,14 @@
--- The words of one level: what stands before, in and after words that were put, and around a part that was lent.
+-- The words of one level: what stands before, in and after words that were put, and the levels below.
 use mathlib.Core.Path.{_≡_, refl, sym, ap, _∙_}
 use Prim.Native.Nat.{ℕ, _+_, _-_, _*_, _≤_, _<_}
 use native.Mathlib.Omega.{arith}
-use mathlib.Core.List.{List, _++_, append-assoc, append-nil}
-use lib.ListN.{length, take, drop, length-append, length-drop, drop-of-length-le}
-use lib.Seq.{length-take-le, take-all, take-append-le, take-take, take-at, drop-at, drop-drop}
+use mathlib.Core.List.{List, _++_, append-assoc}
+use lib.ListN.{length, take, drop, length-append, length-drop}
+use lib.Seq.{length-take-le, take-append-le, take-take, take-at, drop-at, drop-drop}
 use borrow.Author.Tests.{le-leb}
-use borrow.Rule.Slice.PartMut.{midOf, putMid, take-put}
+use borrow.Rule.Slice.PartMut.{midOf, putMid}
 use Rattle.reuse_rows.specs.Rows.{putAt}
+use Rattle.reuse_rows.proofs.Parts.{back-kept}
 use Rattle.summary_calls.specs.Calls.{wrote}
 use Rattle.plan_calls.specs.Calls.{levelWords, countOf, fronted}
 
@@ -43,34 +44,6 @@ module _ (w : List ℕ) (at : ℕ) (l : List ℕ) (fits : at + length l ≤ leng
       ∙ ap (drop (n - (at + length l))) (drop-at (take at w ++ l) (drop (at + length l) w) (at + length l) before-put)
       ∙ drop-drop (n - (at + length l)) (at + length l) w
       ∙ ap (λ (k : ℕ). drop k w) e
-
--- the words from a place to the end, lent as a part
-pub rest-is : (a : ℕ) (w : List ℕ) → midOf a (length w - a) w ≡ drop a w
-rest-is a w = take-all (length w - a) (drop a w) (omega (arith, length-drop a w))
-
-module _ (a : ℕ) (w y : List ℕ) (fits : a ≤ length w) (same : length y ≡ length w - a) where
-  -- what stands before that part when it is back
-  pub back-before : (n : ℕ) → n ≤ a → take n (putMid a (length w - a) w y) ≡ take n w
-  back-before n h =
-      sym (take-take n a (putMid a (length w - a) w y) h) ∙ ap (take n) (take-put a (length w - a) w y fits) ∙ take-take n a w h
-
-  -- the part itself
-  pub back-rest : drop a (putMid a (length w - a) w y) ≡ y
-  back-rest =
-      drop-at (take a w) (y ++ drop (length w - a) (drop a w)) a (length-take-le a w fits)
-      ∙ ap (λ (v : List ℕ). y ++ v) (drop-of-length-le (drop a w) {i = length w - a} (omega (arith, length-drop a w)))
-      ∙ append-nil y
-
-  -- as many words as before
-  pub back-length : length (putMid a (length w - a) w y) ≡ length w
-  back-length =
-      let e : take a w ++ (y ++ drop (length w - a) (drop a w)) ≡ take a w ++ y = ap (λ (v : List ℕ). take a w ++ v) (ap (λ (v : List ℕ). y ++ v) (drop-of-length-le (drop a w) {i = length w - a} (omega (arith, length-drop a w))) ∙ append-nil y) in
-      ap length e ∙ length-append (take a w) y ∙ omega (arith, length-take-le a w fits)
-
-  -- words kept behind it are kept
-  pub back-kept : (n : ℕ) → drop n y ≡ drop n (midOf a (length w - a) w) → drop (a + n) (putMid a (length w - a) w y) ≡ drop (a + n) w
-  back-kept n e =
-      sym (drop-drop n a (putMid a (length w - a) w y)) ∙ ap (drop n) back-rest ∙ e ∙ ap (drop n) (rest-is a w) ∙ drop-drop n a w
 
 -- words at the front of a buffer
 pub front-there : (l buffer : List ℕ) → take (length l) (fronted l buffer) ≡ l

@@ -1,3 +1,5 @@
 pub mod Counting
 pub mod Lowest
 pub mod Scans
+pub mod Filling
+pub mod Entering

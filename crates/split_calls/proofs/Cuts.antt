@@ -2,7 +2,7 @@
 use mathlib.Core.Path.{_≡_, refl, sym, ap, _∙_}
 use Prim.Native.Nat.{ℕ, zero, suc, _+_, _-_, _*_, _≤_, _<_}
 use native.Mathlib.Omega.{arith}
-use mathlib.Core.List.{List, [], _∷_, _++_, flatten, append-nil, List·Memᴰ, List·Memᴰ·head, List·Memᴰ·tail}
+use mathlib.Core.List.{List, [], _∷_, _++_, flatten, append-nil, List·Memᴰ, List·Memᴰ·head, List·Memᴰ·tail, List·Memᴰ·not-nil}
 use mathlib.Core.Bool.{true, false, _&&_}
 use lib.ListN.{length, take, drop, length-take, take-append-drop}
 use lib.Seq.{take-append-seam, drop-append-seam, getD-take}
@@ -103,3 +103,10 @@ first-short n w h k =
 -- summaries that pass the test: the first of more than one does not reach past the words
 pub own-fits : (n : ℕ) (w : List ℕ) → 1 < n → allFormed (cutSummaries n w) ≡ true → (2 + 3 * extentsOf w ≤ length w) × (extentsOf w ≤ maxExtents)
 own-fits n w h f = first-fits w (both _ _ (sym (formed-more n w h) ∙ f) .0)
+
+-- each of summaries that pass the test is well formed
+pub each-formed : (ws : List (List ℕ)) → allFormed ws ≡ true → (w : List ℕ) → List·Memᴰ w ws → wellFormed w ≡ true
+unfolding allFormed
+each-formed [] f w m = absurd (List·Memᴰ·not-nil m)
+each-formed (u ∷ ws) f w (List·Memᴰ·head e) = rw e (both (wellFormed u) (allFormed ws) f .0)
+each-formed (u ∷ ws) f w (List·Memᴰ·tail m) = each-formed ws (both (wellFormed u) (allFormed ws) f .1) w m

@@ -25,6 +25,17 @@ unfolding lowest
 lowest-snoc f k zero = omega (arith, ap f (let e : k + 1 ≡ suc k = omega arith in e))
 lowest-snoc f k (suc n) = omega (arith, lowest-snoc f (suc k) n, ap f (let e : suc k + suc n ≡ k + suc (suc n) = omega arith in e))
 
+-- two runs that are the same, place by place
+pub lowest-same : (f g : ℕ → ℕ) (j k n : ℕ) → ((i : ℕ) → i ≤ n → f (j + i) ≡ g (k + i)) → lowest f j n ≡ lowest g k n
+unfolding lowest
+lowest-same f g j k zero h = let a : j + 0 ≡ j = omega arith in let b : k + 0 ≡ k = omega arith in rw (a, b) at (h 0 (omega arith))
+lowest-same f g j k (suc n) h =
+    let first : f j ≡ g k = (let a : j + 0 ≡ j = omega arith in let b : k + 0 ≡ k = omega arith in rw (a, b) at (h 0 (omega arith))) in
+    let rest : lowest f (suc j) n ≡ lowest g (suc k) n =
+    lowest-same f g (suc j) (suc k) n
+    (λ i l. let a : suc j + i ≡ j + suc i = omega arith in let b : suc k + i ≡ k + suc i = omega arith in rw (a, b) (h (suc i) (omega arith))) in
+    omega arith
+
 -- one extent more saves the reads of one distance
 pub misses-step : (w : List ℕ) (share : ℕ) → missesOf w share ≡ getD (countsOf w) share 0 + missesOf w (suc share)
 unfolding missesOf

@@ -12,7 +12,8 @@ use Rattle.texts.specs.PlanPlaces.{segAt, joinAt, lineAt}
 use Rattle.plan_lines.proofs.Lines.{seg-line, join-line, no-line}
 use Rattle.plan_calls.specs.Calls.{summaryWords, levelWords, countOf}
 use Rattle.plan_calls.specs.Standing.{span, Ready}
-use Rattle.plan_calls.proofs.Levels.{back-length, below-long}
+use Rattle.reuse_rows.proofs.Parts.{back-length}
+use Rattle.plan_calls.proofs.Levels.{below-long}
 use Rattle.plan_calls.proofs.Standing.{Opened, NextPart, some-line, seg-there, join-there, next-part, ready-next, below-roomy}
 use Rattle.plan.specs.Evaluation.{Evaluated}
 use Rattle.plan.proofs.Evaluating.{Halfway, begin, held-there, part-done, join-done, seg-done}

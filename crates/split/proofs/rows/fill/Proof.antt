@@ -1,3 +1,7 @@
+-- `split::rows::fill` meets its contract. The invariant is `Filling`: the rooms before t have their entries.
+use Rattle.split.proofs.Filling.{Filling, filling-start, second-long, filling-tries, filling-turn, filling-inside, filling-end}
+use Prim.Native.Nat.{_+_, _-_}
+use native.Mathlib.Omega.{arith}
 use borrow.Author.Needs.{needs}
 use Rattle.split.proofs.rows.fill.Statement.{statement}
 use Rattle.split.proofs.rows.fill.Tie as tie
@@ -7,14 +11,14 @@ use Rattle.split.proofs.rows.least_sum.Reads as least-sum-reads
 use Rattle.split.proofs.rows.smaller.Reads as smaller-reads
 
 abbrev Inv-loop : tie.InvT-loop
-Inv-loop own span least low store table₀ t₀ table t = ?
+Inv-loop own span least low store table₀ t₀ table t = Filling own span least low store table₀ table t
 
 abbrev μ-loop : tie.MeasureT-loop
-μ-loop own span least low store table₀ t₀ table t = ?
+μ-loop own span least low store table₀ t₀ table t = store + 1 - t
 
 -- src/rows.rt:66:5
 loop-holds : tie.Need-loop-holds Inv-loop μ-loop
-loop-holds c = search needs
+loop-holds c = filling-start _ _ _ _ _ _ (c .before .before .pre)
 
 -- src/rows.rt:67:29
 sub-smaller : tie.Need-sub-smaller Inv-loop μ-loop
@@ -42,7 +46,8 @@ sub-least-sum-2 c = search needs
 
 -- src/rows.rt:68:20
 least-sum-requires : tie.Need-least-sum-requires Inv-loop μ-loop
-least-sum-requires c κs = search needs
+least-sum-requires c κs = 
+    filling-tries _ _ _ _ _ _ (c .before .before .before .before .before .before .before .pre) _ _ (c .before .before .before .before .loop .inv) (omega arith) _ (c .before .before .smaller .ensures)
 
 -- src/rows.rt:68:9
 mul-table : tie.Need-mul-table Inv-loop μ-loop
@@ -62,15 +67,16 @@ loop-less c = search needs
 
 -- src/rows.rt:66:5
 loop-again : tie.Need-loop-again Inv-loop μ-loop
-loop-again c = search needs
+loop-again c = 
+    filling-turn _ _ _ _ _ _ (c .before .before .before .before .before .before .before .before .pre) _ _ (c .before .before .before .before .before .loop .inv) (omega arith) _ _ (c .before .before .before .smaller .ensures) (c .least-sum .ensures)
 
 -- src/rows.rt:61:1
 same-length : tie.Need-same-length Inv-loop μ-loop
-same-length c = search needs
+same-length c = c .before .loop .inv .long
 
 -- src/rows.rt:61:1
 returns : tie.Need-returns Inv-loop μ-loop
-returns c = search needs
+returns c = filling-end _ _ _ _ _ _ (c .before .before .before .before .pre) _ _ (c .before .loop .inv) (omega arith)
 
 pub fill-spec : {M : Type 1} → statement M
 fill-spec =
