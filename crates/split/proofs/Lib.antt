@@ -3,3 +3,4 @@ pub mod Lowest
 pub mod Scans
 pub mod Filling
 pub mod Entering
+pub mod Laying

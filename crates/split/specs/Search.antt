@@ -3,12 +3,10 @@ use Prim.Native.Nat.{ℕ, suc, _+_, _-_, _*_, _≤_, _<_, _^_, min}
 use mathlib.Core.Path.{_≡_}
 use mathlib.Core.Logic.{_≢_}
 use mathlib.Core.List.{List, [], _∷_, _++_}
-use mathlib.Core.Bool.{true, cond}
-use lib.Dec.{eqb}
+use mathlib.Core.Bool.{true}
 use lib.ListN.{length, drop, getD}
 use Rattle.reuse.specs.Limits.{maxExtents, maxStore, maxCustomers}
 use Rattle.reuse.specs.Lists.{sum}
-use Rattle.reuse.specs.Summary.{extentsOf}
 use Rattle.split_calls.specs.Split.{splitMisses, splitOf}
 use Rattle.split_calls.specs.Tables.{chosen}
 use Rattle.split_calls.specs.Cuts.{cutSummaries}
@@ -21,10 +19,6 @@ Tabled [] leasts store costs table = Entries [] leasts store table
 Tabled (w ∷ ws) [] store costs table = Entries (w ∷ ws) [] store table
 Tabled (w ∷ ws) (least ∷ leasts) store costs table =
     Entries (w ∷ ws) (least ∷ leasts) store table × Costs w costs × Tabled ws leasts store (drop sizes costs) (drop rooms table)
-
--- how many of the words are the first of n customers'
-abbrev pub ownWords : ℕ → List ℕ → ℕ
-ownWords n words = cond (eqb n 1) (length words) (2 + 3 * extentsOf words)
 
 -- words that can be cut for n customers
 pub record Cuttable (words : List ℕ) (n : ℕ) : Type 0 where

@@ -1,7 +1,8 @@
 // The search: the table from the last customer back, the smallest room that reaches its fewest misses, and the shares from the
 // first customer on.
 ghost use mathlib.Core.Path.{_≡_};
-ghost use Rattle.split.specs.Search.{ownWords, Cuttable, Laying, Laid, Scanning, Scanned, Seeking, Sought, Choosing, Chosen, Searching, Searched};
+ghost use Rattle.split_calls.specs.Cuts.{ownWords};
+ghost use Rattle.split.specs.Search.{Cuttable, Laying, Laid, Scanning, Scanned, Seeking, Sought, Choosing, Chosen, Searching, Searched};
 use crate::rows;
 use crate::rows::ROOMS;
 use crate::rows::SIZES;

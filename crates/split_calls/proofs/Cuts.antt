@@ -4,13 +4,15 @@ use Prim.Native.Nat.{ℕ, zero, suc, _+_, _-_, _*_, _≤_, _<_}
 use native.Mathlib.Omega.{arith}
 use mathlib.Core.List.{List, [], _∷_, _++_, flatten, append-nil, List·Memᴰ, List·Memᴰ·head, List·Memᴰ·tail, List·Memᴰ·not-nil}
 use mathlib.Core.Bool.{true, false, _&&_}
+use lib.Dec.{eqb}
 use lib.ListN.{length, take, drop, length-take, take-append-drop}
-use lib.Seq.{take-append-seam, drop-append-seam, getD-take}
+use lib.Seq.{take-length, take-append-seam, drop-append-seam, getD-take}
+use borrow.Author.Tests.{eqb-true, eqb-false}
 use Rattle.reuse.specs.Limits.{maxExtents}
 use Rattle.reuse.specs.Summary.{extentsOf, wellFormed}
 use Rattle.reuse.proofs.Lists.{by-test, both}
 use Rattle.reuse.proofs.Formed.{Formed, formed}
-use Rattle.split_calls.specs.Cuts.{cutSummaries}
+use Rattle.split_calls.specs.Cuts.{cutSummaries, ownWords}
 use Rattle.split_calls.specs.Calls.{allFormed}
 
 -- v of words with others after them
@@ -103,6 +105,29 @@ first-short n w h k =
 -- summaries that pass the test: the first of more than one does not reach past the words
 pub own-fits : (n : ℕ) (w : List ℕ) → 1 < n → allFormed (cutSummaries n w) ≡ true → (2 + 3 * extentsOf w ≤ length w) × (extentsOf w ≤ maxExtents)
 own-fits n w h f = first-fits w (both _ _ (sym (formed-more n w h) ∙ f) .0)
+
+-- the words of one customer or more: the first one's, and the others'
+pub own-cut : (n : ℕ) (w : List ℕ) → 0 < n → cutSummaries n w ≡ take (ownWords n w) w ∷ cutSummaries (n - 1) (drop (ownWords n w) w)
+own-cut n w h =
+    by-test (eqb n 1)
+    (λ e. let q : n ≡ 1 = eqb-true n 1 e in let z : n - 1 ≡ 0 = omega arith in
+    rw (e, z, take-length w) (cut-one n w q ∙ ap {B = List (List ℕ)} (λ r. w ∷ r) (sym (none (drop (length w) w)))))
+    (λ e. let q : n ≡ 1 → ⊥ = eqb-false n 1 e in rw e (cut-more n w (omega arith)))
+  where
+    none : (l : List ℕ) → cutSummaries 0 l ≡ []
+    none l = unfold cutSummaries in refl
+
+module _ (n : ℕ) (w : List ℕ) (h : 0 < n) (f : allFormed (cutSummaries n w) ≡ true) where
+  -- where all pass the test, the first does and so do the others
+  pub own-formed : (wellFormed (take (ownWords n w) w) ≡ true) × (allFormed (cutSummaries (n - 1) (drop (ownWords n w) w)) ≡ true)
+  unfolding allFormed
+  own-formed = both (wellFormed (take (ownWords n w) w)) (allFormed (cutSummaries (n - 1) (drop (ownWords n w) w))) (ap allFormed (sym (own-cut n w h)) ∙ f)
+
+  -- the first one's words do not reach past them
+  pub own-inside : ownWords n w ≤ length w
+  own-inside =
+      by-test (eqb n 1) (λ e. rw e (omega arith))
+      (λ e. let q : n ≡ 1 → ⊥ = eqb-false n 1 e in rw e (own-fits n w (omega arith) f .0))
 
 -- each of summaries that pass the test is well formed
 pub each-formed : (ws : List (List ℕ)) → allFormed ws ≡ true → (w : List ℕ) → List·Memᴰ w ws → wellFormed w ≡ true

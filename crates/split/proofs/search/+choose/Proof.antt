@@ -1,0 +1,140 @@
+use borrow.Author.Needs.{needs}
+use Prim.Native.Nat.{ℕ, _<_}
+use borrow.Fn.Kinds.{In}
+use borrow.Fn.PlainCycle.{Measures, is, falls, and}
+use Rattle.split.proofs.search.choose.Reads as choose
+use Rattle.split.proofs.search.choose.Kinds as choose-kinds
+use Rattle.split.proofs.search.+choose.Lts-choose as choose-lts
+use Rattle.split.proofs.search.share_at.Reads as share-at-reads
+use Rattle.split.proofs.search.+choose.{statement}
+use Rattle.split.proofs.search.+choose.Tie.{close}
+
+abbrev μ-choose : Measures 4 choose-kinds.ps ℕ
+μ-choose κs a = ?
+
+abbrev choose-at : ℕ → In 4 choose-kinds.ps
+choose-at t = and 4 choose-kinds.ps (is 4 choose-kinds.ps μ-choose t) choose.Pre
+
+abbrev choose-below : ℕ → In 4 choose-kinds.ps
+choose-below t = and 4 choose-kinds.ps (falls 4 choose-kinds.ps _<_ μ-choose t) choose.Pre
+
+abbrev choose-claims : ℕ → choose-lts.Claims
+choose-claims t = (
+  share-at-reads.Asked,
+  share-at-reads.Learnt,
+  choose-below t,
+  choose.Post,
+)
+
+choose-returns : (t : ℕ) → choose-lts.Need-returns (choose-claims t) (choose-at t) choose.Post
+choose-returns t c = search needs
+
+choose-shared-slice-read-least : (t : ℕ) → choose-lts.Need-shared-slice-read-least (choose-claims t) (choose-at t) choose.Post
+choose-shared-slice-read-least t c = search needs
+
+choose-cast-least : (t : ℕ) → choose-lts.Need-cast-least (choose-claims t) (choose-at t) choose.Post
+choose-cast-least t c = search needs
+
+choose-sub-share-at : (t : ℕ) → choose-lts.Need-sub-share-at (choose-claims t) (choose-at t) choose.Post
+choose-sub-share-at t c = search needs
+
+choose-part-share-at-start : (t : ℕ) → choose-lts.Need-part-share-at-start (choose-claims t) (choose-at t) choose.Post
+choose-part-share-at-start t c = search needs
+
+choose-part-share-at-end : (t : ℕ) → choose-lts.Need-part-share-at-end (choose-claims t) (choose-at t) choose.Post
+choose-part-share-at-end t c = search needs
+
+choose-mul-share-at : (t : ℕ) → choose-lts.Need-mul-share-at (choose-claims t) (choose-at t) choose.Post
+choose-mul-share-at t c = search needs
+
+choose-shared-slice-read-share-at : (t : ℕ) → choose-lts.Need-shared-slice-read-share-at (choose-claims t) (choose-at t) choose.Post
+choose-shared-slice-read-share-at t c = search needs
+
+choose-share-at-requires : (t : ℕ) → choose-lts.Need-share-at-requires (choose-claims t) (choose-at t) choose.Post
+choose-share-at-requires t c κs = search needs
+
+choose-cast-shares : (t : ℕ) → choose-lts.Need-cast-shares (choose-claims t) (choose-at t) choose.Post
+choose-cast-shares t c = search needs
+
+choose-slice-write-shares : (t : ℕ) → choose-lts.Need-slice-write-shares (choose-claims t) (choose-at t) choose.Post
+choose-slice-write-shares t c = search needs
+
+choose-sub-choose : (t : ℕ) → choose-lts.Need-sub-choose (choose-claims t) (choose-at t) choose.Post
+choose-sub-choose t c = search needs
+
+choose-part-choose-start : (t : ℕ) → choose-lts.Need-part-choose-start (choose-claims t) (choose-at t) choose.Post
+choose-part-choose-start t c = search needs
+
+choose-part-choose-end : (t : ℕ) → choose-lts.Need-part-choose-end (choose-claims t) (choose-at t) choose.Post
+choose-part-choose-end t c = search needs
+
+choose-sub-choose-2 : (t : ℕ) → choose-lts.Need-sub-choose-2 (choose-claims t) (choose-at t) choose.Post
+choose-sub-choose-2 t c = search needs
+
+choose-sub-choose-3 : (t : ℕ) → choose-lts.Need-sub-choose-3 (choose-claims t) (choose-at t) choose.Post
+choose-sub-choose-3 t c = search needs
+
+choose-part-choose-start-2 : (t : ℕ) → choose-lts.Need-part-choose-start-2 (choose-claims t) (choose-at t) choose.Post
+choose-part-choose-start-2 t c = search needs
+
+choose-part-choose-end-2 : (t : ℕ) → choose-lts.Need-part-choose-end-2 (choose-claims t) (choose-at t) choose.Post
+choose-part-choose-end-2 t c = search needs
+
+choose-sub-choose-4 : (t : ℕ) → choose-lts.Need-sub-choose-4 (choose-claims t) (choose-at t) choose.Post
+choose-sub-choose-4 t c = search needs
+
+choose-part-choose-start-3 : (t : ℕ) → choose-lts.Need-part-choose-start-3 (choose-claims t) (choose-at t) choose.Post
+choose-part-choose-start-3 t c = search needs
+
+choose-part-choose-end-3 : (t : ℕ) → choose-lts.Need-part-choose-end-3 (choose-claims t) (choose-at t) choose.Post
+choose-part-choose-end-3 t c = search needs
+
+choose-sub-choose-5 : (t : ℕ) → choose-lts.Need-sub-choose-5 (choose-claims t) (choose-at t) choose.Post
+choose-sub-choose-5 t c = search needs
+
+choose-part-choose-start-4 : (t : ℕ) → choose-lts.Need-part-choose-start-4 (choose-claims t) (choose-at t) choose.Post
+choose-part-choose-start-4 t c = search needs
+
+choose-part-choose-end-4 : (t : ℕ) → choose-lts.Need-part-choose-end-4 (choose-claims t) (choose-at t) choose.Post
+choose-part-choose-end-4 t c = search needs
+
+choose-choose-requires : (t : ℕ) → choose-lts.Need-choose-requires (choose-claims t) (choose-at t) choose.Post
+choose-choose-requires t c κs = search needs
+
+choose-same-length : (t : ℕ) → choose-lts.Need-same-length (choose-claims t) (choose-at t) choose.Post
+choose-same-length t c = search needs
+
+choose-returns-2 : (t : ℕ) → choose-lts.Need-returns-2 (choose-claims t) (choose-at t) choose.Post
+choose-returns-2 t c = search needs
+
+pub +choose-spec : {M : Type 1} → statement M
++choose-spec = close μ-choose λ t. choose-lts.spec (choose-claims t)
+    (choose-at t)
+    choose.Post
+    (choose-returns t)
+    (choose-shared-slice-read-least t)
+    (choose-cast-least t)
+    (choose-sub-share-at t)
+    (choose-part-share-at-start t)
+    (choose-part-share-at-end t)
+    (choose-mul-share-at t)
+    (choose-shared-slice-read-share-at t)
+    (choose-share-at-requires t)
+    (choose-cast-shares t)
+    (choose-slice-write-shares t)
+    (choose-sub-choose t)
+    (choose-part-choose-start t)
+    (choose-part-choose-end t)
+    (choose-sub-choose-2 t)
+    (choose-sub-choose-3 t)
+    (choose-part-choose-start-2 t)
+    (choose-part-choose-end-2 t)
+    (choose-sub-choose-4 t)
+    (choose-part-choose-start-3 t)
+    (choose-part-choose-end-3 t)
+    (choose-sub-choose-5 t)
+    (choose-part-choose-start-4 t)
+    (choose-part-choose-end-4 t)
+    (choose-choose-requires t)
+    (choose-same-length t)
+    (choose-returns-2 t)
