@@ -9,6 +9,12 @@ use borrow.Rule.Slice.PartMut.{midOf, putMid, take-put}
 use Rattle.reuse_rows.proofs.Slices.{part-rest}
 
 module _ (a : ℕ) (w y : List ℕ) (fits : a ≤ length w) (same : length y ≡ length w - a) where
+  -- the row is what stood before that part, and the part
+  pub back-is : putMid a (length w - a) w y ≡ take a w ++ y
+  back-is =
+      ap (λ (v : List ℕ). take a w ++ v)
+      (ap (λ (v : List ℕ). y ++ v) (drop-of-length-le (drop a w) {i = length w - a} (omega (arith, length-drop a w))) ∙ append-nil y)
+
   -- what stands before that part when it is back
   pub back-before : (n : ℕ) → n ≤ a → take n (putMid a (length w - a) w y) ≡ take n w
   back-before n h =
@@ -16,16 +22,11 @@ module _ (a : ℕ) (w y : List ℕ) (fits : a ≤ length w) (same : length y ≡
 
   -- the part itself
   pub back-rest : drop a (putMid a (length w - a) w y) ≡ y
-  back-rest =
-      drop-at (take a w) (y ++ drop (length w - a) (drop a w)) a (length-take-le a w fits)
-      ∙ ap (λ (v : List ℕ). y ++ v) (drop-of-length-le (drop a w) {i = length w - a} (omega (arith, length-drop a w)))
-      ∙ append-nil y
+  back-rest = ap (drop a) back-is ∙ drop-at (take a w) y a (length-take-le a w fits)
 
   -- as many words as before
   pub back-length : length (putMid a (length w - a) w y) ≡ length w
-  back-length =
-      let e : take a w ++ (y ++ drop (length w - a) (drop a w)) ≡ take a w ++ y = ap (λ (v : List ℕ). take a w ++ v) (ap (λ (v : List ℕ). y ++ v) (drop-of-length-le (drop a w) {i = length w - a} (omega (arith, length-drop a w))) ∙ append-nil y) in
-      ap length e ∙ length-append (take a w) y ∙ omega (arith, length-take-le a w fits)
+  back-length = ap length back-is ∙ length-append (take a w) y ∙ omega (arith, length-take-le a w fits)
 
   -- words kept behind it are kept
   pub back-kept : (n : ℕ) → drop n y ≡ drop n (midOf a (length w - a) w) → drop (a + n) (putMid a (length w - a) w y) ≡ drop (a + n) w

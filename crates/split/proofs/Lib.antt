@@ -4,3 +4,4 @@ pub mod Scans
 pub mod Filling
 pub mod Entering
 pub mod Laying
+pub mod Choosing

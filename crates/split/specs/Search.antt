@@ -73,10 +73,8 @@ pub record Sought (costs others : List ℕ) (misses least left r : ℕ) : Type 0
   pub reached : withShare costs others left r ≡ misses
   pub first : (u : ℕ) → least ≤ u → u < r → withShare costs others left u ≢ misses
 
--- customers whose shares of the room `left` can be read off their table
-pub record Choosing (leasts : List ℕ) (left : ℕ) (costs table shares : List ℕ) : Type 0 where
-  pub summaries : List (List ℕ)
-  pub store : ℕ
+-- these customers' shares of the room `left` can be read off their table
+pub record Chooses (summaries : List (List ℕ)) (store : ℕ) (leasts : List ℕ) (left : ℕ) (costs table shares : List ℕ) : Type 0 where
   pub formed : allFormed summaries ≡ true
   pub each : length summaries ≡ length leasts
   pub few : length leasts ≤ maxCustomers
@@ -88,10 +86,15 @@ pub record Choosing (leasts : List ℕ) (left : ℕ) (costs table shares : List 
   pub room : length leasts ≤ length shares
   pub tabled : Tabled summaries leasts store costs table
 
+-- those of some customers and some store
+abbrev pub Choosing : List ℕ → ℕ → List ℕ → List ℕ → List ℕ → Type 0
+Choosing leasts left costs table shares = (summaries : List (List ℕ)) × (store : ℕ) × Chooses summaries store leasts left costs table shares
+
 -- their shares at the front
-abbrev pub Chosen : (leasts : List ℕ) (left : ℕ) (costs table shares shares′ : List ℕ) → Type 0
+abbrev pub Chosen : List ℕ → ℕ → List ℕ → List ℕ → List ℕ → List ℕ → Type 0
 Chosen leasts left costs table shares shares′ =
-    (g : Choosing leasts left costs table shares) → shares′ ≡ chosen (g .summaries) leasts left ++ drop (length leasts) shares
+    (summaries : List (List ℕ)) (store : ℕ) → Chooses summaries store leasts left costs table shares
+    → shares′ ≡ chosen summaries leasts left ++ drop (length leasts) shares
 
 -- a split that is not refused
 pub record Searching (store : ℕ) (leasts words shares : List ℕ) : Type 0 where

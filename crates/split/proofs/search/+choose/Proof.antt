@@ -1,5 +1,12 @@
+-- `split::search::choose` meets its contract. It calls itself with one customer less.
+use Rattle.reuse_rows.proofs.Parts.{back-length}
+use mathlib.Core.Path.{_≡_, _∙_}
+use borrow.Rule.Slice.PartMut.{mid-len}
+use Rattle.split.proofs.Choosing.{chosen-none, seeking, choosing-rest, chosen-all}
+use lib.ListN.{length, set, length-set}
+use native.Mathlib.Omega.{arith}
 use borrow.Author.Needs.{needs}
-use Prim.Native.Nat.{ℕ, _<_}
+use Prim.Native.Nat.{ℕ, _-_, _≤_, _<_}
 use borrow.Fn.Kinds.{In}
 use borrow.Fn.PlainCycle.{Measures, is, falls, and}
 use Rattle.split.proofs.search.choose.Reads as choose
@@ -10,7 +17,7 @@ use Rattle.split.proofs.search.+choose.{statement}
 use Rattle.split.proofs.search.+choose.Tie.{close}
 
 abbrev μ-choose : Measures 4 choose-kinds.ps ℕ
-μ-choose κs a = ?
+μ-choose κs a = length (a .0 .now)
 
 abbrev choose-at : ℕ → In 4 choose-kinds.ps
 choose-at t = and 4 choose-kinds.ps (is 4 choose-kinds.ps μ-choose t) choose.Pre
@@ -26,14 +33,27 @@ choose-claims t = (
   choose.Post,
 )
 
+-- there is a word for the first share
+word : (t : ℕ) (c : choose-lts.After-share-at (choose-claims t) (choose-at t) choose.Post) →
+    let a = c .before .before .before .before .before .before .before .before .before .args in 1 ≤ length (set (a .shares .now) 0 (c .share-at .result))
+word t c = let a = c .before .before .before .before .before .before .before .before .before in omega (arith, length-set (a .args .shares .now) 0 (c .share-at .result), a .pre .1 .2 .room)
+
+-- the others' words come back as many
+long : (t : ℕ) (c : choose-lts.After-slice-known2 (choose-claims t) (choose-at t) choose.Post) →
+    let a = c .before .before .before .before .before .before .before .before .before .before .before .before .before .before .before .before .args in
+    length (c .before .before .choose .last .1 .1 .1 .1 .0) ≡ length (set (a .shares .now) 0 (c .before .before .before .before .before .before .before .share-at .result)) - 1
+long t c =
+    let s = set (c .before .before .before .before .before .before .before .before .before .before .before .before .before .before .before .before .args .shares .now) 0 (c .before .before .before .before .before .before .before .share-at .result) in
+    c .before .before .choose .kept .1 .1 .1 .1 .0 ∙ mid-len 1 (length s) s (omega arith)
+
 choose-returns : (t : ℕ) → choose-lts.Need-returns (choose-claims t) (choose-at t) choose.Post
-choose-returns t c = search needs
+choose-returns t c = λ ss store h. chosen-none ss store _ _ _ _ _ h (omega arith)
 
 choose-shared-slice-read-least : (t : ℕ) → choose-lts.Need-shared-slice-read-least (choose-claims t) (choose-at t) choose.Post
 choose-shared-slice-read-least t c = search needs
 
 choose-cast-least : (t : ℕ) → choose-lts.Need-cast-least (choose-claims t) (choose-at t) choose.Post
-choose-cast-least t c = search needs
+choose-cast-least t c = omega (arith, c .shared-slice-known4 .given 0)
 
 choose-sub-share-at : (t : ℕ) → choose-lts.Need-sub-share-at (choose-claims t) (choose-at t) choose.Post
 choose-sub-share-at t c = search needs
@@ -51,7 +71,7 @@ choose-shared-slice-read-share-at : (t : ℕ) → choose-lts.Need-shared-slice-r
 choose-shared-slice-read-share-at t c = search needs
 
 choose-share-at-requires : (t : ℕ) → choose-lts.Need-share-at-requires (choose-claims t) (choose-at t) choose.Post
-choose-share-at-requires t c κs = search needs
+choose-share-at-requires t c κs = let a = c .before .before .before .before .before .before .before .before in seeking _ _ _ _ _ _ _ (a .pre .1 .2) (omega arith)
 
 choose-cast-shares : (t : ℕ) → choose-lts.Need-cast-shares (choose-claims t) (choose-at t) choose.Post
 choose-cast-shares t c = search needs
@@ -90,22 +110,30 @@ choose-part-choose-end-3 : (t : ℕ) → choose-lts.Need-part-choose-end-3 (choo
 choose-part-choose-end-3 t c = search needs
 
 choose-sub-choose-5 : (t : ℕ) → choose-lts.Need-sub-choose-5 (choose-claims t) (choose-at t) choose.Post
-choose-sub-choose-5 t c = search needs
+choose-sub-choose-5 t c = word t (c .before .before .before)
 
 choose-part-choose-start-4 : (t : ℕ) → choose-lts.Need-part-choose-start-4 (choose-claims t) (choose-at t) choose.Post
-choose-part-choose-start-4 t c = search needs
+choose-part-choose-start-4 t c = word t (c .before .before .before)
 
 choose-part-choose-end-4 : (t : ℕ) → choose-lts.Need-part-choose-end-4 (choose-claims t) (choose-at t) choose.Post
 choose-part-choose-end-4 t c = search needs
 
 choose-choose-requires : (t : ℕ) → choose-lts.Need-choose-requires (choose-claims t) (choose-at t) choose.Post
-choose-choose-requires t c κs = search needs
+choose-choose-requires t c κs = 
+    let a = c .before .before .before .before .before .before .before .before .before .before .before .before .before in (
+      omega (arith, a .pre .0, mid-len 1 (length (a .args .leasts .now)) (a .args .leasts .now) (omega arith)),
+      choosing-rest _ _ _ _ _ _ _ _ (a .pre .1 .2) (omega arith) (c .before .before .before .before .share-at .ensures),
+    )
 
 choose-same-length : (t : ℕ) → choose-lts.Need-same-length (choose-claims t) (choose-at t) choose.Post
-choose-same-length t c = search needs
+choose-same-length t c = 
+    let a = c .before .before .before .before .before .before .before .before .before .before .before .before .before .before .before .before in
+    let r = c .before .before .before .before .before .before .before .share-at .result in
+    back-length 1 (set (a .args .shares .now) 0 r) _ (word t (c .before .before .before .before .before .before .before)) (long t c) ∙ length-set (a .args .shares .now) 0 r
 
 choose-returns-2 : (t : ℕ) → choose-lts.Need-returns-2 (choose-claims t) (choose-at t) choose.Post
-choose-returns-2 t c = search needs
+choose-returns-2 t c = 
+    λ ss store h. chosen-all _ _ _ _ _ ss store _ h (omega arith) (c .before .before .before .before .before .before .before .share-at .ensures) _ (c .before .before .choose .ensures) (long t c)
 
 pub +choose-spec : {M : Type 1} → statement M
 +choose-spec = close μ-choose λ t. choose-lts.spec (choose-claims t)
