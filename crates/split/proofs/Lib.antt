@@ -5,3 +5,4 @@ pub mod Filling
 pub mod Entering
 pub mod Laying
 pub mod Choosing
+pub mod Searching

@@ -129,7 +129,7 @@ choose-same-length : (t : ℕ) → choose-lts.Need-same-length (choose-claims t)
 choose-same-length t c = 
     let a = c .before .before .before .before .before .before .before .before .before .before .before .before .before .before .before .before in
     let r = c .before .before .before .before .before .before .before .share-at .result in
-    back-length 1 (set (a .args .shares .now) 0 r) _ (word t (c .before .before .before .before .before .before .before)) (long t c) ∙ length-set (a .args .shares .now) 0 r
+    back-length 1 (set (a .args .shares .now) 0 r) (c .before .before .choose .last .1 .1 .1 .1 .0) (word t (c .before .before .before .before .before .before .before)) (long t c) ∙ length-set (a .args .shares .now) 0 r
 
 choose-returns-2 : (t : ℕ) → choose-lts.Need-returns-2 (choose-claims t) (choose-at t) choose.Post
 choose-returns-2 t c = 

@@ -149,12 +149,12 @@ lay-enter-requires t c κs =
 lay-same-length : (t : ℕ) → lay-lts.Need-same-length (lay-claims t) (lay-at t) lay.Post
 lay-same-length t c = 
     let a = c .before .before .before .before .before .before .before .before .before .before .before .before .before .before .before .before .before .before .before .before .before .before .before .before in
-    c .before .before .before .before .enter .kept .1 .1 .1 .1 .0 ∙ back-length sizes (a .args .costs .now) _ (omega (arith, some t (c .before .before .before .before .before .before .before .before .before .before .before .before .before .before .before .before .before .before), a .pre .1 .costs-long)) (back t (c .before .before .before .before .before .before .before .before) .0)
+    c .before .before .before .before .enter .kept .1 .1 .1 .1 .0 ∙ back-length sizes (a .args .costs .now) (c .before .before .before .before .before .before .before .before .before .before .before .before .before .lay .last .1 .1 .1 .0) (omega (arith, some t (c .before .before .before .before .before .before .before .before .before .before .before .before .before .before .before .before .before .before), a .pre .1 .costs-long)) (back t (c .before .before .before .before .before .before .before .before) .0)
 
 lay-same-length-2 : (t : ℕ) → lay-lts.Need-same-length-2 (lay-claims t) (lay-at t) lay.Post
 lay-same-length-2 t c = 
     let a = c .before .before .before .before .before .before .before .before .before .before .before .before .before .before .before .before .before .before .before .before .before .before .before .before in
-    c .before .before .before .before .enter .kept .1 .1 .1 .1 .1 .0 ∙ back-length rooms (a .args .table .now) _ (omega (arith, a .pre .1 .table-long)) (back t (c .before .before .before .before .before .before .before .before) .1)
+    c .before .before .before .before .enter .kept .1 .1 .1 .1 .1 .0 ∙ back-length rooms (a .args .table .now) (c .before .before .before .before .before .before .before .before .before .before .before .before .before .lay .last .1 .1 .1 .1 .0) (omega (arith, a .pre .1 .table-long)) (back t (c .before .before .before .before .before .before .before .before) .1)
 
 lay-returns-2 : (t : ℕ) → lay-lts.Need-returns-2 (lay-claims t) (lay-at t) lay.Post
 lay-returns-2 t c = 
