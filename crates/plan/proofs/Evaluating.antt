@@ -18,8 +18,9 @@ use Rattle.texts.specs.Plans.{Plan, reads, depth}
 use Rattle.plan_calls.specs.Calls.{summaryWords, levelWords, countOf, fronted}
 use Rattle.plan_calls.specs.Standing.{span}
 use Rattle.reuse_rows.proofs.Parts.{back-before, back-length}
+use Rattle.reuse_copies.proofs.Puts.{put-there, put-after}
 use Rattle.plan_calls.proofs.Spans.{back-words, front-words, span-within, span-append, span-words}
-use Rattle.plan_calls.proofs.Levels.{put-there, put-after, front-there, front-again, wrote-front, levels-more, level-kept}
+use Rattle.plan_calls.proofs.Levels.{front-there, front-again, wrote-front, levels-more, level-kept}
 use Rattle.plan_calls.proofs.Standing.{Opened, Pending, NextPart, no-part}
 use Rattle.plan_joins.specs.Calls.{Joined, joinedHeld, joinHeld}
 use Rattle.plan_joins.proofs.Joins.{Holdable, none-held, one-held, behind-kept}

@@ -1,49 +1,15 @@
--- The words of one level: what stands before, in and after words that were put, and the levels below.
+-- The words at the front of a buffer, and those of one level and of the levels below.
 use mathlib.Core.Path.{_≡_, refl, sym, ap, _∙_}
 use Prim.Native.Nat.{ℕ, _+_, _-_, _*_, _≤_, _<_}
 use native.Mathlib.Omega.{arith}
-use mathlib.Core.List.{List, _++_, append-assoc}
-use lib.ListN.{length, take, drop, length-append, length-drop}
-use lib.Seq.{length-take-le, take-append-le, take-take, take-at, drop-at, drop-drop}
+use mathlib.Core.List.{List, _++_}
+use lib.ListN.{length, take, drop, length-drop}
+use lib.Seq.{length-take-le, take-at, drop-at, drop-drop}
 use borrow.Author.Tests.{le-leb}
 use borrow.Rule.Slice.PartMut.{midOf, putMid}
-use Rattle.reuse_rows.specs.Rows.{putAt}
 use Rattle.reuse_rows.proofs.Parts.{back-kept}
 use Rattle.summary_calls.specs.Calls.{wrote}
 use Rattle.plan_calls.specs.Calls.{levelWords, countOf, fronted}
-
-module _ (w : List ℕ) (at : ℕ) (l : List ℕ) (fits : at + length l ≤ length w) where
-  -- as many words as stand before
-  before : length (take at w) ≡ at
-  before = length-take-le at w (omega arith)
-
-  -- and with those put
-  before-put : length (take at w ++ l) ≡ at + length l
-  before-put = length-append (take at w) l ∙ ap (λ (n : ℕ). n + length l) before
-
-  -- what stands before words that were put
-  pub put-before : (n : ℕ) → n ≤ at → take n (putAt w at l) ≡ take n w
-  unfolding putAt
-  put-before n h = take-append-le n (take at w) (l ++ drop (at + length l) w) (omega (arith, before)) ∙ take-take n at w h
-
-  -- the words that were put
-  pub put-there : take (length l) (drop at (putAt w at l)) ≡ l
-  unfolding putAt
-  put-there =
-      ap (take (length l)) (drop-at (take at w) (l ++ drop (at + length l) w) at before)
-      ∙ take-at l (drop (at + length l) w) (length l) refl
-
-  -- what stands after them
-  pub put-after : (n : ℕ) → at + length l ≤ n → drop n (putAt w at l) ≡ drop n w
-  unfolding putAt
-  put-after n h =
-      let e : at + length l + (n - (at + length l)) ≡ n = omega arith in
-      ap (λ (k : ℕ). drop k (take at w ++ (l ++ drop (at + length l) w))) (sym e)
-      ∙ sym (drop-drop (n - (at + length l)) (at + length l) (take at w ++ (l ++ drop (at + length l) w)))
-      ∙ ap (λ (v : List ℕ). drop (n - (at + length l)) (drop (at + length l) v)) (sym (append-assoc (take at w) l (drop (at + length l) w)))
-      ∙ ap (drop (n - (at + length l))) (drop-at (take at w ++ l) (drop (at + length l) w) (at + length l) before-put)
-      ∙ drop-drop (n - (at + length l)) (at + length l) w
-      ∙ ap (λ (k : ℕ). drop k w) e
 
 -- words at the front of a buffer
 pub front-there : (l buffer : List ℕ) → take (length l) (fronted l buffer) ≡ l

@@ -13,7 +13,7 @@ use Rattle.reuse_copies.proofs.Puts.{placed-fits}
 use Rattle.summary_calls.specs.declared.Written.{Written}
 use Rattle.summary_calls.specs.Calls.{Wrote, joinCall}
 use Rattle.plan_calls.specs.Calls.{summaryWords, levelWords, countOf}
-use Rattle.plan_calls.proofs.Levels.{put-before, put-there, put-after}
+use Rattle.reuse_copies.proofs.Puts.{put-before, put-there, put-after}
 use Rattle.plan_joins.specs.Calls.{Joined, untouched, holds, joinedHeld, joinHeld}
 
 -- two summaries that can be joined in a level's words

@@ -105,6 +105,23 @@ unfolding from
 from-suc f k zero = refl
 from-suc f k (suc n) = ap (λ (r : List ℕ). f (suc k) ∷ r) (from-suc f (suc k) n)
 
+-- a table of f
+module _ (f : ℕ → ℕ) where
+  -- at a place before its end
+  pub map-from-at : (k n i : ℕ) → i < n → getD (map f (from k n)) i 0 ≡ f (k + i)
+  unfolding from
+  map-from-at k zero i h = absurd (omega arith)
+  map-from-at k (suc n) zero h = ap f (let e : k ≡ k + 0 = omega arith in e)
+  map-from-at k (suc n) (suc i) h = map-from-at (suc k) n i (omega arith) ∙ ap f (let e : suc k + i ≡ k + suc i = omega arith in e)
+
+  -- one longer
+  pub map-from-snoc : (k n : ℕ) → map f (from k (suc n)) ≡ map f (from k n) ++ (f (k + n) ∷ [])
+  unfolding from
+  map-from-snoc k zero = ap (λ (x : ℕ). x ∷ []) (ap f (let e : k ≡ k + 0 = omega arith in e))
+  map-from-snoc k (suc n) =
+      ap {B = List ℕ} (λ r. f k ∷ r)
+      (map-from-snoc (suc k) n ∙ ap {B = List ℕ} (λ r. map f (from (suc k) n) ++ r) (ap (λ (x : ℕ). x ∷ []) (ap f (let e : suc k + n ≡ k + suc n = omega arith in e))))
+
 -- a table without its first c
 pub drop-from : (f : ℕ → ℕ) (c k n : ℕ) → drop c (map f (from k n)) ≡ map f (from (k + c) (n - c))
 unfolding from

@@ -1,10 +1,10 @@
 -- Words put into a row: the row afterwards, and a turn of the loop that puts them.
 use mathlib.Core.Path.{_≡_, refl, sym, ap, _∙_}
-use Prim.Native.Nat.{ℕ, suc, _+_, _≤_, _<_}
+use Prim.Native.Nat.{ℕ, suc, _+_, _-_, _≤_, _<_}
 use native.Mathlib.Omega.{arith}
 use mathlib.Core.List.{List, [], _∷_, _++_, append-assoc}
 use lib.ListN.{length, take, drop, getD, set, drop-of-length-le, take-append-drop, length-append, length-take, length-drop, length-set}
-use lib.Seq.{take-suc-set, drop-set-lt, drop-drop, drop-at, take-at, length-take-le}
+use lib.Seq.{take-suc-set, drop-set-lt, drop-drop, drop-at, take-at, take-take, take-append-le, length-take-le}
 use borrow.Author.Tests.{le-leb, lt-leb}
 use Rattle.reuse_rows.specs.Rows.{putAt, placed}
 use Rattle.reuse_rows.proofs.Slices.{next-word}
@@ -39,6 +39,39 @@ put-append o n l m h =
     ∙ ap (drop (length m)) (drop-at (take n o ++ l) (drop (n + length l) o) (n + length l) e)
     ∙ drop-drop (length m) (n + length l) o ∙ ap (λ (k : ℕ). drop k o) f in
     rw (t, take-at (take n o ++ l) (drop (n + length l) o) (n + length l) e, d) (simp append-assoc)
+
+module _ (w : List ℕ) (at : ℕ) (l : List ℕ) (fits : at + length l ≤ length w) where
+  -- as many words as stand before
+  before : length (take at w) ≡ at
+  before = length-take-le at w (omega arith)
+
+  -- and with those put
+  before-put : length (take at w ++ l) ≡ at + length l
+  before-put = length-append (take at w) l ∙ ap (λ (n : ℕ). n + length l) before
+
+  -- what stands before words that were put
+  pub put-before : (n : ℕ) → n ≤ at → take n (putAt w at l) ≡ take n w
+  unfolding putAt
+  put-before n h = take-append-le n (take at w) (l ++ drop (at + length l) w) (omega (arith, before)) ∙ take-take n at w h
+
+  -- the words that were put
+  pub put-there : take (length l) (drop at (putAt w at l)) ≡ l
+  unfolding putAt
+  put-there =
+      ap (take (length l)) (drop-at (take at w) (l ++ drop (at + length l) w) at before)
+      ∙ take-at l (drop (at + length l) w) (length l) refl
+
+  -- what stands after them
+  pub put-after : (n : ℕ) → at + length l ≤ n → drop n (putAt w at l) ≡ drop n w
+  unfolding putAt
+  put-after n h =
+      let e : at + length l + (n - (at + length l)) ≡ n = omega arith in
+      ap (λ (k : ℕ). drop k (take at w ++ (l ++ drop (at + length l) w))) (sym e)
+      ∙ sym (drop-drop (n - (at + length l)) (at + length l) (take at w ++ (l ++ drop (at + length l) w)))
+      ∙ ap (λ (v : List ℕ). drop (n - (at + length l)) (drop (at + length l) v)) (sym (append-assoc (take at w) l (drop (at + length l) w)))
+      ∙ ap (drop (n - (at + length l))) (drop-at (take at w ++ l) (drop (at + length l) w) (at + length l) before-put)
+      ∙ drop-drop (n - (at + length l)) (at + length l) w
+      ∙ ap (λ (k : ℕ). drop k w) e
 
 -- words that fit are put
 pub placed-fits : (o : List ℕ) (n : ℕ) (l : List ℕ) → n + length l ≤ length o → placed o n l ≡ putAt o n l

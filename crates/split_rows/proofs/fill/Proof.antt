@@ -1,14 +1,14 @@
--- `split::rows::fill` meets its contract. The invariant is `Filling`: the rooms before t have their entries.
-use Rattle.split.proofs.Filling.{Filling, filling-start, second-long, filling-tries, filling-turn, filling-inside, filling-end}
+-- `split_rows::fill` meets its contract. The invariant is `Filling`: the rooms before t have their entries.
+use Rattle.split_rows.proofs.Filling.{Filling, filling-start, filling-tries, filling-turn, filling-end}
 use Prim.Native.Nat.{_+_, _-_}
 use native.Mathlib.Omega.{arith}
 use borrow.Author.Needs.{needs}
-use Rattle.split.proofs.rows.fill.Statement.{statement}
-use Rattle.split.proofs.rows.fill.Tie as tie
-use Rattle.split.proofs.rows.fill.Reads as reads
-use Rattle.split.proofs.rows.fill.Lts as lts
-use Rattle.split.proofs.rows.least_sum.Reads as least-sum-reads
-use Rattle.split.proofs.rows.smaller.Reads as smaller-reads
+use Rattle.split_rows.proofs.fill.Statement.{statement}
+use Rattle.split_rows.proofs.fill.Tie as tie
+use Rattle.split_rows.proofs.fill.Reads as reads
+use Rattle.split_rows.proofs.fill.Lts as lts
+use Rattle.split_rows.proofs.least_sum.Reads as least-sum-reads
+use Rattle.split_rows.proofs.smaller.Reads as smaller-reads
 
 abbrev Inv-loop : tie.InvT-loop
 Inv-loop own span least low store table₀ t₀ table t = Filling own span least low store table₀ table t
@@ -16,65 +16,50 @@ Inv-loop own span least low store table₀ t₀ table t = Filling own span least
 abbrev μ-loop : tie.MeasureT-loop
 μ-loop own span least low store table₀ t₀ table t = store + 1 - t
 
--- src/rows.rt:66:5
 loop-holds : tie.Need-loop-holds Inv-loop μ-loop
 loop-holds c = filling-start _ _ _ _ _ _ (c .before .before .pre)
 
--- src/rows.rt:67:29
 sub-smaller : tie.Need-sub-smaller Inv-loop μ-loop
 sub-smaller c = search needs
 
--- src/rows.rt:67:13
 smaller-requires : tie.Need-smaller-requires Inv-loop μ-loop
 smaller-requires c κs = search needs
 
--- src/rows.rt:68:35
 sub-least-sum : tie.Need-sub-least-sum Inv-loop μ-loop
 sub-least-sum c = search needs
 
--- src/rows.rt:68:35
 part-least-sum-start : tie.Need-part-least-sum-start Inv-loop μ-loop
 part-least-sum-start c = search needs
 
--- src/rows.rt:68:35
 part-least-sum-end : tie.Need-part-least-sum-end Inv-loop μ-loop
 part-least-sum-end c = search needs
 
--- src/rows.rt:68:52
 sub-least-sum-2 : tie.Need-sub-least-sum-2 Inv-loop μ-loop
 sub-least-sum-2 c = search needs
 
--- src/rows.rt:68:20
 least-sum-requires : tie.Need-least-sum-requires Inv-loop μ-loop
 least-sum-requires c κs = 
     filling-tries _ _ _ _ _ _ (c .before .before .before .before .before .before .before .pre) _ _ (c .before .before .before .before .loop .inv) (omega arith) _ (c .before .before .smaller .ensures)
 
--- src/rows.rt:68:9
 mul-table : tie.Need-mul-table Inv-loop μ-loop
 mul-table c = search needs
 
--- src/rows.rt:68:9
 slice-write-table : tie.Need-slice-write-table Inv-loop μ-loop
 slice-write-table c = search needs
 
--- src/rows.rt:69:13
 add-t : tie.Need-add-t Inv-loop μ-loop
 add-t c = search needs
 
--- src/rows.rt:66:5
 loop-less : tie.Need-loop-less Inv-loop μ-loop
 loop-less c = search needs
 
--- src/rows.rt:66:5
 loop-again : tie.Need-loop-again Inv-loop μ-loop
 loop-again c = 
     filling-turn _ _ _ _ _ _ (c .before .before .before .before .before .before .before .before .pre) _ _ (c .before .before .before .before .before .loop .inv) (omega arith) _ _ (c .before .before .before .smaller .ensures) (c .least-sum .ensures)
 
--- src/rows.rt:61:1
 same-length : tie.Need-same-length Inv-loop μ-loop
 same-length c = c .before .loop .inv .long
 
--- src/rows.rt:61:1
 returns : tie.Need-returns Inv-loop μ-loop
 returns c = filling-end _ _ _ _ _ _ (c .before .before .before .before .pre) _ _ (c .before .loop .inv) (omega arith)
 

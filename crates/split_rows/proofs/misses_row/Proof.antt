@@ -1,11 +1,12 @@
--- `split::rows::costs_of` meets its contract. The invariant is `Counted`: the misses at the sizes from s on stand in the row.
-use Rattle.split.proofs.Counting.{Counted, counted-start, counted-small, counted-turn, counted-end}
+-- `split_rows::misses_row` meets its contract. The invariant is `Counted`: the misses at the sizes from s on stand in the row.
+use Rattle.split_rows.proofs.Counting.{Counted, counted-start, counted-turn, counted-end}
 use native.Mathlib.Omega.{arith}
 use borrow.Author.Needs.{needs}
-use Rattle.split.proofs.rows.costs_of.Statement.{statement}
-use Rattle.split.proofs.rows.costs_of.Tie as tie
-use Rattle.split.proofs.rows.costs_of.Reads as reads
-use Rattle.split.proofs.rows.costs_of.Lts as lts
+use Rattle.split_rows.proofs.misses_row.Statement.{statement}
+use Rattle.split_rows.proofs.misses_row.Tie as tie
+use Rattle.split_rows.proofs.misses_row.Reads as reads
+use Rattle.split_rows.proofs.misses_row.Lts as lts
+use Rattle.std.proofs.num.wrapping_add_u32.Reads as wrapping-add-u32-reads
 
 abbrev Inv-loop : tie.InvT-loop
 Inv-loop words v counts row₀ s₀ row s = Counted words row s
@@ -13,88 +14,88 @@ Inv-loop words v counts row₀ s₀ row s = Counted words row s
 abbrev μ-loop : tie.MeasureT-loop
 μ-loop words v counts row₀ s₀ row s = s
 
--- src/rows.rt:30:13
+-- src/lib.rt:31:13
 shared-slice-read-v : tie.Need-shared-slice-read-v Inv-loop μ-loop
 shared-slice-read-v c = search needs
 
--- src/rows.rt:30:13
+-- src/lib.rt:31:13
 cast-v : tie.Need-cast-v Inv-loop μ-loop
 cast-v c = search needs
 
--- src/rows.rt:31:22
+-- src/lib.rt:32:22
 mul-counts : tie.Need-mul-counts Inv-loop μ-loop
 mul-counts c = search needs
 
--- src/rows.rt:31:18
+-- src/lib.rt:32:18
 add-counts : tie.Need-add-counts Inv-loop μ-loop
 add-counts c = search needs
 
--- src/rows.rt:32:20
+-- src/lib.rt:33:20
 shared-slice-read-row : tie.Need-shared-slice-read-row Inv-loop μ-loop
 shared-slice-read-row c = search needs
 
--- src/rows.rt:34:5
+-- src/lib.rt:35:5
 loop-holds : tie.Need-loop-holds Inv-loop μ-loop
-loop-holds c = counted-start _
+loop-holds c = counted-start _ (c .before .before .before .pre)
 
--- src/rows.rt:35:27
+-- src/lib.rt:36:27
 add-saved : tie.Need-add-saved Inv-loop μ-loop
 add-saved c = search needs
 
--- src/rows.rt:35:27
+-- src/lib.rt:36:27
 sub-saved : tie.Need-sub-saved Inv-loop μ-loop
 sub-saved c = search needs
 
--- src/rows.rt:35:21
+-- src/lib.rt:36:21
 mul-saved : tie.Need-mul-saved Inv-loop μ-loop
 mul-saved c = search needs
 
--- src/rows.rt:35:21
+-- src/lib.rt:36:21
 shared-slice-read-saved : tie.Need-shared-slice-read-saved Inv-loop μ-loop
 shared-slice-read-saved c = search needs
 
--- src/rows.rt:36:22
-mul-row : tie.Need-mul-row Inv-loop μ-loop
-mul-row c = search needs
+-- src/lib.rt:37:49
+mul-wrapping-add-u32 : tie.Need-mul-wrapping-add-u32 Inv-loop μ-loop
+mul-wrapping-add-u32 c = search needs
 
--- src/rows.rt:36:22
-array-read-row : tie.Need-array-read-row Inv-loop μ-loop
-array-read-row c = search needs
+-- src/lib.rt:37:49
+array-read-wrapping-add-u32 : tie.Need-array-read-wrapping-add-u32 Inv-loop μ-loop
+array-read-wrapping-add-u32 c = search needs
 
--- src/rows.rt:36:22
-add-row : tie.Need-add-row Inv-loop μ-loop
-add-row c = record { fits = omega (arith, counted-small _ (c .before .before .before .before .before .pre) _ _ (c .before .before .loop .inv) (omega arith)) }
+-- src/lib.rt:37:22
+wrapping-add-u32-requires : tie.Need-wrapping-add-u32-requires Inv-loop μ-loop
+wrapping-add-u32-requires c κs = search needs
 
--- src/rows.rt:36:13
+-- src/lib.rt:37:13
 sub-row : tie.Need-sub-row Inv-loop μ-loop
 sub-row c = search needs
 
--- src/rows.rt:36:9
-mul-row-2 : tie.Need-mul-row-2 Inv-loop μ-loop
-mul-row-2 c = search needs
+-- src/lib.rt:37:9
+mul-row : tie.Need-mul-row Inv-loop μ-loop
+mul-row c = search needs
 
--- src/rows.rt:36:9
+-- src/lib.rt:37:9
 array-write-row : tie.Need-array-write-row Inv-loop μ-loop
 array-write-row c = search needs
 
--- src/rows.rt:37:13
+-- src/lib.rt:38:13
 sub-s : tie.Need-sub-s Inv-loop μ-loop
 sub-s c = search needs
 
--- src/rows.rt:34:5
+-- src/lib.rt:35:5
 loop-less : tie.Need-loop-less Inv-loop μ-loop
 loop-less c = search needs
 
--- src/rows.rt:34:5
+-- src/lib.rt:35:5
 loop-again : tie.Need-loop-again Inv-loop μ-loop
-loop-again c = counted-turn _ (c .before .before .before .before .before .pre) _ _ (c .before .before .loop .inv) (omega arith)
+loop-again c = counted-turn _ (c .before .before .before .before .before .before .before .pre) _ _ (c .before .before .before .loop .inv) (omega arith) _ (c .wrapping-add-u32 .ensures)
 
--- src/rows.rt:26:1
+-- src/lib.rt:27:1
 returns : tie.Need-returns Inv-loop μ-loop
 returns c = counted-end _ _ _ (c .before .loop .inv) (omega arith)
 
-pub costs-of-spec : {M : Type 1} → statement M
-costs-of-spec =
+pub misses-row-spec : {M : Type 1} → statement M
+misses-row-spec =
     tie.close
     (tie.spec
     Inv-loop
@@ -109,11 +110,11 @@ costs-of-spec =
     sub-saved
     mul-saved
     shared-slice-read-saved
-    mul-row
-    array-read-row
-    add-row
+    mul-wrapping-add-u32
+    array-read-wrapping-add-u32
+    wrapping-add-u32-requires
     sub-row
-    mul-row-2
+    mul-row
     array-write-row
     sub-s
     loop-less

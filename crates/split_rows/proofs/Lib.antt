@@ -1,0 +1,4 @@
+pub mod Counting
+pub mod Lowest
+pub mod Filling
+pub mod Entering
