@@ -22,7 +22,7 @@ use Rattle.split_calls.proofs.Cuts.{each-formed}
 use Rattle.split_calls.proofs.Fewest.{misses-past}
 use Rattle.split_calls.proofs.Choice.{share-reaches}
 use Rattle.split_calls.proofs.Steps.{share-is, misses-small, fewest-small}
-use Rattle.split.specs.Rows.{sizes, rooms}
+use Rattle.split_rows.specs.Rows.{sizes, rooms}
 use Rattle.split.specs.Search.{Tabled, withShare, Seeking, Sought, Chooses, Choosing, Chosen}
 use Rattle.split.proofs.Laying.{tabled-entries}
 

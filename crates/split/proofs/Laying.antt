@@ -11,14 +11,13 @@ use Rattle.reuse.specs.Lists.{sum}
 use Rattle.reuse.specs.Summary.{wellFormed}
 use Rattle.reuse_rows.proofs.Slices.{part-rest}
 use Rattle.reuse_rows.proofs.Parts.{back-rest, back-length}
-use Rattle.summary_calls.specs.Shapes.{Given}
-use Rattle.summary_calls.proofs.Fields.{given}
 use Rattle.split_calls.specs.Tables.{fewest}
 use Rattle.split_calls.specs.Cuts.{cutSummaries, ownWords}
 use Rattle.split_calls.specs.Calls.{allFormed}
 use Rattle.split_calls.proofs.Cuts.{cut-length, own-cut, own-formed, own-inside}
-use Rattle.split.specs.Rows.{sizes, rooms, Entries, Entering, Entered, Enters}
-use Rattle.split.specs.Search.{Tabled, Laying, Laid}
+use Rattle.split_rows.specs.Rows.{sizes, rooms, Rows, entered}
+use Rattle.split.specs.Search.{Entries, Tabled, Laying, Laid}
+use Rattle.split.proofs.Entries.{Entering, rows-made, own-costs, all-entries, costs-past, table-past}
 
 -- the row of all customers is the table's first
 pub tabled-entries : (ws : List (List ℕ)) (ls : List ℕ) (store : ℕ) (costs table : List ℕ) → Tabled ws ls store costs table → Entries ws ls store table
@@ -38,10 +37,6 @@ laid-none words [] store costs table l e = record { in-all = refl; tabled = λ t
 laid-none words (x ∷ ls) store costs table l e = absurd (omega arith)
 
 module _ (words : List ℕ) (store : ℕ) (costs table : List ℕ) where
-  -- the words of the first customer
-  pub first-given : (leasts : List ℕ) → Laying words leasts store costs table → 0 < length leasts → Given (take (ownWords (length leasts) words) words)
-  first-given leasts l h = given _ (own-formed (length leasts) words h (l .formed) .0)
-
   -- what is left can be laid
   rest : (leasts : List ℕ) → Laying words leasts store costs table → 0 < length leasts
       → Laying (drop (ownWords (length leasts) words) words) (drop 1 leasts) store (drop sizes costs) (drop rooms table)
@@ -87,17 +82,24 @@ module _ (words : List ℕ) (store : ℕ) (costs table : List ℕ) where
 
     -- and the table of all when the first customer's rows are made
     done : (leasts : List ℕ) (l : Laying words leasts store costs table) (h : 0 < length leasts)
-        (d : Laid (drop (ownWords (length leasts) words) words) (drop 1 leasts) store others costs₁ table₁) (costs′ table′ : List ℕ)
-        → Entered (take (ownWords (length leasts) words) words) (getD leasts 0 0) (getD leasts 0 0 + others) store (putMid sizes (length costs - sizes) costs costs₁) (putMid rooms (length table - rooms) table table₁) (with-others leasts l h d) costs′ table′
-        → Laid words leasts store (getD leasts 0 0 + others) costs′ table′
-    done [] l h d costs′ table′ e = absurd (omega arith)
-    done (x ∷ ls) l h d costs′ table′ e =
+        → Laid (drop (ownWords (length leasts) words) words) (drop 1 leasts) store others costs₁ table₁ →
+        let rows : Rows = entered (take (ownWords (length leasts) words) words) (getD leasts 0 0) (getD leasts 0 0 + others) store (putMid sizes (length costs - sizes) costs costs₁) (putMid rooms (length table - rooms) table table₁) in
+        Laid words leasts store (getD leasts 0 0 + others) (rows .costs) (rows .table)
+    done [] l h d = absurd (omega arith)
+    done (x ∷ ls) l h d =
         let n : suc (length ls) - 1 ≡ length ls = omega arith in
-        let c : drop sizes costs′ ≡ costs₁ = e .costs-past ∙ back-rest sizes costs costs₁ (omega (arith, l .costs-long)) long in
-        let t : drop rooms table′ ≡ table₁ = e .table-past ∙ back-rest rooms table table₁ (omega (arith, l .table-long)) long₁ in
+        let w : List ℕ = take (ownWords (suc (length ls)) words) words in
+        let f : wellFormed w ≡ true = own-formed (suc (length ls)) words h (l .formed) .0 in
+        let o = with-others (x ∷ ls) l h d in
+        let costs₀ : List ℕ = putMid sizes (length costs - sizes) costs costs₁ in
+        let table₀ : List ℕ = putMid rooms (length table - rooms) table table₁ in
+        let c = costs-past w f x (x + others) store costs₀ table₀ o ∙ back-rest sizes costs costs₁ (omega (arith, l .costs-long)) long in
+        let t = table-past w f x (x + others) store costs₀ table₀ o ∙ back-rest rooms table table₁ (omega (arith, l .table-long)) long₁ in
         record {
           in-all = omega (arith, d .in-all, first-share x ls);
-          tabled = rw (own-cut (suc (length ls)) words h, n) (e .entries, e .own, rw (c, t) (d .tabled));
+          tabled =
+              rw (rows-made w f x (x + others) store costs₀ table₀ o, own-cut (suc (length ls)) words h, n)
+              (all-entries w f x (x + others) store costs₀ table₀ o, own-costs w f x (x + others) store costs₀ table₀ o, rw (c, t) (d .tabled));
         }
 
     module _ (leasts : List ℕ) (l : Laying words leasts store costs table) (h : 0 < length leasts)
@@ -106,12 +108,12 @@ module _ (words : List ℕ) (store : ℕ) (costs table : List ℕ) where
       laid-rest : Laid (drop (ownWords (length leasts) words) words) (drop 1 leasts) store others costs₁ table₁
       laid-rest = rw (part-rest words (ownWords (length leasts) words), part-rest leasts 1) at d
 
-      -- so the first customer can enter
-      pub laid-entering : Entering (getD leasts 0 0) (getD leasts 0 0 + others) store (putMid sizes (length costs - sizes) costs costs₁) (putMid rooms (length table - rooms) table table₁)
-      laid-entering = with-others leasts l h laid-rest
+      -- with the first the least shares fit the store
+      pub laid-fits : getD leasts 0 0 + others ≤ store
+      laid-fits = with-others leasts l h laid-rest .fits
 
       -- and all are laid
-      pub laid-done : (costs′ table′ : List ℕ)
-          → Enters (take (ownWords (length leasts) words) words) (getD leasts 0 0) (getD leasts 0 0 + others) store (putMid sizes (length costs - sizes) costs costs₁) (putMid rooms (length table - rooms) table table₁) costs′ table′
-          → Laid words leasts store (getD leasts 0 0 + others) costs′ table′
-      laid-done costs′ table′ e = done leasts l h laid-rest costs′ table′ (e (with-others leasts l h laid-rest))
+      pub laid-done :
+          let rows : Rows = entered (take (ownWords (length leasts) words) words) (getD leasts 0 0) (getD leasts 0 0 + others) store (putMid sizes (length costs - sizes) costs costs₁) (putMid rooms (length table - rooms) table table₁) in
+          Laid words leasts store (getD leasts 0 0 + others) (rows .costs) (rows .table)
+      laid-done = done leasts l h laid-rest

@@ -1,8 +1,5 @@
-pub mod Counting
-pub mod Lowest
 pub mod Scans
-pub mod Filling
-pub mod Entering
+pub mod Entries
 pub mod Laying
 pub mod Choosing
 pub mod Searching

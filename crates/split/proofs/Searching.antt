@@ -14,8 +14,8 @@ use Rattle.split_calls.proofs.Cuts.{cut-length}
 use Rattle.split_calls.proofs.Fewest.{split-fewest}
 use Rattle.split_calls.proofs.Choice.{choice-split}
 use Rattle.split_calls.proofs.Steps.{total-is}
-use Rattle.split.specs.Rows.{sizes, rooms, Entries}
-use Rattle.split.specs.Search.{Laying, Laid, Scanned, Chooses, Chosen, Searching, Searched}
+use Rattle.split_rows.specs.Rows.{sizes, rooms}
+use Rattle.split.specs.Search.{Entries, Laying, Laid, Scanned, Chooses, Chosen, Searching, Searched}
 use Rattle.split.proofs.Laying.{tabled-entries}
 
 module _ (store : ℕ) (leasts words shares : List ℕ) (s : Searching store leasts words shares) where

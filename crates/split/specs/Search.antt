@@ -7,11 +7,20 @@ use mathlib.Core.Bool.{true}
 use lib.ListN.{length, drop, getD}
 use Rattle.reuse.specs.Limits.{maxExtents, maxStore, maxCustomers}
 use Rattle.reuse.specs.Lists.{sum}
+use Rattle.reuse.specs.Summary.{missesOf}
 use Rattle.split_calls.specs.Split.{splitMisses, splitOf}
-use Rattle.split_calls.specs.Tables.{chosen}
+use Rattle.split_calls.specs.Tables.{fewest, chosen}
 use Rattle.split_calls.specs.Cuts.{cutSummaries}
 use Rattle.split_calls.specs.Calls.{allFormed}
-use Rattle.split.specs.Rows.{sizes, rooms, Costs, Entries}
+use Rattle.split_rows.specs.Rows.{sizes, rooms}
+
+-- at the front of a row the misses of a summary at each size
+abbrev pub Costs : List ℕ → List ℕ → Type 0
+Costs w row = (s : ℕ) → s < sizes → getD row s 0 ≡ missesOf w s
+
+-- at the front of a row, in each room that holds their least shares, the fewest misses of these customers
+abbrev pub Entries : List (List ℕ) → List ℕ → ℕ → List ℕ → Type 0
+Entries summaries leasts store row = (t : ℕ) → sum leasts ≤ t → t ≤ store → getD row t 0 ≡ fewest summaries leasts t
 
 -- the table of these customers: the row of all of them, the first one's misses, and the table of the others
 abbrev pub Tabled : List (List ℕ) → List ℕ → ℕ → List ℕ → List ℕ → Type 0

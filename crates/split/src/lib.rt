@@ -1,6 +1,5 @@
 // One store split among customers: the shares with the fewest misses in all, of these the smallest total, then the smallest
 // first share, the second, and so on.
-mod rows;
 mod search;
 
 pub use split_calls::SplitAnswer;

@@ -3,11 +3,10 @@
 ghost use mathlib.Core.Path.{_≡_};
 ghost use Rattle.split_calls.specs.Cuts.{ownWords};
 ghost use Rattle.split.specs.Search.{Cuttable, Laying, Laid, Scanning, Scanned, Seeking, Sought, Choosing, Chosen, Searching, Searched};
-use crate::rows;
-use crate::rows::ROOMS;
-use crate::rows::SIZES;
 use reuse::MAX_CUSTOMERS;
 use reuse::MAX_EXTENTS;
+use split_rows::ROOMS;
+use split_rows::SIZES;
 
 // A row of misses for each customer.
 const COSTS: usize = MAX_CUSTOMERS * SIZES;
@@ -38,7 +37,7 @@ fn lay(words: &[u32], leasts: &[u32], store: usize, costs: &mut [u32], table: &m
     let others = lay(&words[own..], &leasts[1..], store, &mut costs[SIZES..], &mut table[ROOMS..]);
     let least = leasts[0] as usize;
     let low = least + others;
-    rows::enter(&words[..own], least, low, store, costs, table);
+    split_rows::enter(&words[..own], least, low, store, costs, table);
     low
 }
 
@@ -60,10 +59,10 @@ fn share_at(costs: &[u32], others: &[u32], misses: u32, least: usize, left: usiz
     ensures { λ r. ⌜ Sought (now (costs .entry)) (now (others .entry)) misses least left r ⌝ }
 {
     let mut share = least;
-    let mut size = rows::smaller(share, MAX_EXTENTS);
+    let mut size = split_rows::smaller(share, MAX_EXTENTS);
     while costs[size] + others[left - share] != misses {
         share = share + 1;
-        size = rows::smaller(share, MAX_EXTENTS);
+        size = split_rows::smaller(share, MAX_EXTENTS);
     }
     share
 }

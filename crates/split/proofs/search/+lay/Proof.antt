@@ -1,13 +1,13 @@
 -- `split::search::lay` meets its contract. It calls itself with one customer less.
 use Rattle.split.specs.Search.{Laid}
-use Rattle.split.specs.Rows.{sizes, rooms, Entering}
+use Rattle.split_rows.specs.Rows.{sizes, rooms}
 use Rattle.split_calls.specs.Cuts.{ownWords}
 use Rattle.reuse_rows.proofs.Parts.{back-length}
 use lib.Seq.{length-take-le}
 use mathlib.Core.Path.{_≡_, sym, _∙_}
 use borrow.Rule.Slice.PartMut.{midOf, putMid, mid-len}
 use Rattle.split_calls.proofs.Cuts.{own-inside}
-use Rattle.split.proofs.Laying.{laid-none, first-given, rest-laying, laid-entering, laid-done}
+use Rattle.split.proofs.Laying.{laid-none, rest-laying, laid-fits, laid-done}
 use lib.ListN.{length, getD}
 use native.Mathlib.Omega.{arith}
 use borrow.Author.Needs.{needs}
@@ -17,7 +17,7 @@ use borrow.Fn.PlainCycle.{Measures, is, falls, and}
 use Rattle.split.proofs.search.lay.Reads as lay
 use Rattle.split.proofs.search.lay.Kinds as lay-kinds
 use Rattle.split.proofs.search.+lay.Lts-lay as lay-lts
-use Rattle.split.proofs.rows.enter.Reads as enter-reads
+use Rattle.split_rows.proofs.enter.Reads as enter-reads
 use Rattle.split.proofs.search.own_words.Reads as own-words-reads
 use Rattle.split.proofs.search.+lay.{statement}
 use Rattle.split.proofs.search.+lay.Tie.{close}
@@ -69,12 +69,10 @@ laid : (t : ℕ) (c : lay-lts.After-shared-slice-known3 (lay-claims t) (lay-at t
     Laid (midOf own (length (a .words .now) - own) (a .words .now)) (midOf 1 (length (a .leasts .now) - 1) (a .leasts .now)) (a .store) (e .result) (e .last .1 .1 .1 .0) (e .last .1 .1 .1 .1 .0)
 laid t c = rw (c .before .before .before .before .before .before .before .before .before .before .own-words .ensures) at (c .before .before .before .before .before .lay .ensures)
 
--- the first customer can enter
-entering : (t : ℕ) (c : lay-lts.After-shared-slice-known3 (lay-claims t) (lay-at t) lay.Post) →
-    let a = c .before .before .before .before .before .before .before .before .before .before .before .before .before .before .before .before .args in
-    let e = c .before .before .before .before .before .lay in
-    Entering (getD (a .leasts .now) 0 0) (getD (a .leasts .now) 0 0 + e .result) (a .store) (putMid sizes (length (a .costs .now) - sizes) (a .costs .now) (e .last .1 .1 .1 .0)) (putMid rooms (length (a .table .now) - rooms) (a .table .now) (e .last .1 .1 .1 .1 .0))
-entering t c = laid-entering _ _ _ _ _ _ (back t c .0) (back t c .1) _ _ (c .before .before .before .before .before .before .before .before .before .before .before .before .before .before .before .before .pre .1) (some t (c .before .before .before .before .before .before .before .before .before .before)) (laid t c)
+-- with the first customer's the least shares fit the store
+fits : (t : ℕ) (c : lay-lts.After-shared-slice-known3 (lay-claims t) (lay-at t) lay.Post) →
+    let a = c .before .before .before .before .before .before .before .before .before .before .before .before .before .before .before .before .args in getD (a .leasts .now) 0 0 + c .before .before .before .before .before .lay .result ≤ a .store
+fits t c = laid-fits _ _ _ _ _ _ (back t c .0) (back t c .1) _ _ (c .before .before .before .before .before .before .before .before .before .before .before .before .before .before .before .before .pre .1) (some t (c .before .before .before .before .before .before .before .before .before .before)) (laid t c)
 
 lay-returns : (t : ℕ) → lay-lts.Need-returns (lay-claims t) (lay-at t) lay.Post
 lay-returns t c = laid-none _ _ _ _ _ (c .before .before .before .before .before .pre .1) (omega arith)
@@ -136,15 +134,13 @@ lay-cast-least : (t : ℕ) → lay-lts.Need-cast-least (lay-claims t) (lay-at t)
 lay-cast-least t c = omega (arith, c .shared-slice-known3 .given 0)
 
 lay-add-low : (t : ℕ) → lay-lts.Need-add-low (lay-claims t) (lay-at t) lay.Post
-lay-add-low t c = record { fits = omega (arith, entering t c .fits, entering t c .small) }
+lay-add-low t c = record { fits = omega (arith, fits t c, c .before .before .before .before .before .before .before .before .before .before .before .before .before .before .before .before .pre .1 .small) }
 
 lay-slice-aggregate-enter : (t : ℕ) → lay-lts.Need-slice-aggregate-enter (lay-claims t) (lay-at t) lay.Post
 lay-slice-aggregate-enter t c = sym (length-take-le _ _ (inside t (c .before .before .before .before .before .before .before .before .before .before .before)))
 
 lay-enter-requires : (t : ℕ) → lay-lts.Need-enter-requires (lay-claims t) (lay-at t) lay.Post
-lay-enter-requires t c κs = 
-    let a = c .before .before .before .before .before .before .before .before .before .before .before .before .before .before .before .before .before .before .before in
-    (rw (c .before .before .before .before .before .before .before .before .before .before .before .before .before .own-words .ensures) (first-given _ _ _ _ _ (a .pre .1) (some t (c .before .before .before .before .before .before .before .before .before .before .before .before .before))), entering t (c .before .before .before))
+lay-enter-requires t c κs = search needs
 
 lay-same-length : (t : ℕ) → lay-lts.Need-same-length (lay-claims t) (lay-at t) lay.Post
 lay-same-length t c = 
@@ -160,7 +156,9 @@ lay-returns-2 : (t : ℕ) → lay-lts.Need-returns-2 (lay-claims t) (lay-at t) l
 lay-returns-2 t c = 
     let a = c .before .before .before .before .before .before .before .before .before .before .before .before .before .before .before .before .before .before .before .before .before .before .before .before in
     let k = c .before .before .before .before .before .before .before .before in
-    laid-done _ _ _ _ _ _ (back t k .0) (back t k .1) _ _ (a .pre .1) (some t (c .before .before .before .before .before .before .before .before .before .before .before .before .before .before .before .before .before .before)) (laid t k) _ _ (rw (c .before .before .before .before .before .before .before .before .before .before .before .before .before .before .before .before .before .before .own-words .ensures) at (c .before .before .before .before .enter .ensures))
+    let n = c .before .before .before .before .before .before .before .before .before .before .before .before .before .before .before .before .before .before .own-words in
+    let e = c .before .before .before .before .enter in
+    rw (rw (n .ensures) at (e .ensures .0), rw (n .ensures) at (e .ensures .1)) (laid-done _ _ _ _ _ _ (back t k .0) (back t k .1) _ _ (a .pre .1) (some t (c .before .before .before .before .before .before .before .before .before .before .before .before .before .before .before .before .before .before)) (laid t k))
 
 pub +lay-spec : {M : Type 1} → statement M
 +lay-spec = close μ-lay λ t. lay-lts.spec (lay-claims t)

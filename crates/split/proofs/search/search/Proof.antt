@@ -3,7 +3,7 @@ use Rattle.split.proofs.Searching.{searching-laying, searching-chooses,
 use Prim.Native.Nat.{_+_, _*_}
 use native.Mathlib.Omega.{arith}
 use Rattle.reuse.specs.Limits.{maxCustomers}
-use Rattle.split.specs.Rows.{sizes, rooms}
+use Rattle.split_rows.specs.Rows.{sizes, rooms}
 use borrow.Author.Needs.{needs}
 use Rattle.split.proofs.search.search.Statement.{statement}
 use Rattle.split.proofs.search.search.Tie as tie

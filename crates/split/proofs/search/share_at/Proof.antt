@@ -11,7 +11,7 @@ use Rattle.split.proofs.search.share_at.Statement.{statement}
 use Rattle.split.proofs.search.share_at.Tie as tie
 use Rattle.split.proofs.search.share_at.Reads as reads
 use Rattle.split.proofs.search.share_at.Lts as lts
-use Rattle.split.proofs.rows.smaller.Reads as smaller-reads
+use Rattle.split_rows.proofs.smaller.Reads as smaller-reads
 
 abbrev Inv-loop : tie.InvT-loop
 Inv-loop costs others misses least left share₀ size₀ share size = 
