@@ -29,7 +29,7 @@ extern "C" {
 enum jemqolu_refusal {
     JEMQOLU_REFUSED_LINE = 1,    /* a text line with which no text of the rule can go on, or an end too early */
     JEMQOLU_REFUSED_NUMBER = 2,  /* in a text an extent above 4,294,967,295 or a seg above 1,048,576; a distance above
-                                    256 given to a watch */
+                                    256 given to a watch; a store above 1,024; a number of customers that is not 1 to 8 */
     JEMQOLU_REFUSED_SEGS = 3,    /* the segs of a plan do not add up to the log */
     JEMQOLU_REFUSED_PLAN = 4,    /* a plan text over 65,536 bytes, a ninth join open, a seventeenth part of one join */
     JEMQOLU_REFUSED_SUMMARY = 5, /* words that are not a well-formed summary */
@@ -37,7 +37,8 @@ enum jemqolu_refusal {
     JEMQOLU_REFUSED_STATE = 7,   /* words that are not a sound session or watch, too few of them among these */
     JEMQOLU_REFUSED_READS = 8,   /* more than 1,048,576 reads would result, those of a prefix or of both sides of a join
                                     counted */
-    JEMQOLU_REFUSED_EXTENTS = 9  /* more than 256 different extents would result, counted so too */
+    JEMQOLU_REFUSED_EXTENTS = 9, /* more than 256 different extents would result, counted so too */
+    JEMQOLU_REFUSED_SHARES = 10  /* the least shares add up to more than the store */
 };
 
 /* The limits. */
@@ -47,6 +48,8 @@ enum jemqolu_refusal {
 #define JEMQOLU_MAX_JOINS 8          /* open at once in a plan */
 #define JEMQOLU_MAX_PARTS 16         /* of one join of a plan */
 #define JEMQOLU_MAX_SEG 1048576      /* the reads of one seg of a plan */
+#define JEMQOLU_MAX_STORE 1024       /* the extents of a store that is split */
+#define JEMQOLU_MAX_CUSTOMERS 8      /* of one store */
 
 /* Lengths that always suffice, and the exact ones of a session and a watch. */
 #define JEMQOLU_SUMMARY_WORDS 770  /* 2 + 3 * 256: any summary */
@@ -78,6 +81,16 @@ int64_t jemqolu_misses(const uint32_t *words, size_t words_len, uint32_t size);
 /* The hits of such a cache divided by all reads, written to `*share`.
  * Lent: the summary; one double. Answer: 1, or 0 with `*share` unchanged where there are no reads. Refusal: -5. */
 int64_t jemqolu_share(const uint32_t *words, size_t words_len, uint32_t size, double *share);
+
+/* The split of a store of `store` extents among customers: one share for each, none below the customer's least share, in
+ * all no more than the store. Of all such shares they are those with the fewest misses in all, then those of the smallest
+ * total, then those with the smallest first share, second share, and so on. A customer's misses are those of a cache of
+ * its share that reads its summary's log. A share is above v only where the least share is.
+ * Lent: the least shares, one for each customer; the customers' summaries end to end, in the same order: each but the last
+ * has 2 + 3 v words by its own v, the last all that are left; `shares`, a word for each customer.
+ * Answer: the misses in all. Refusals, in order: -2 for the store, -2 for the number of customers, -5, -10, -6. */
+int64_t jemqolu_split(uint32_t store, const uint32_t *leasts, size_t leasts_len,
+                      const uint32_t *summaries, size_t summaries_len, uint32_t *shares, size_t shares_len);
 
 /* Texts have one form a line, each line ended by a newline, with one leading space for each bracket that is open; the
  * closing brackets follow the last inner form. A number has 1 to 10 digits and no leading zero but 0 itself.

@@ -22,6 +22,7 @@ import ctypes
 import operator
 import os
 from array import array
+from typing import NamedTuple
 
 MAX_READS = 1_048_576
 MAX_EXTENTS = 256
@@ -29,6 +30,8 @@ MAX_PLAN_BYTES = 65_536
 MAX_JOINS = 8
 MAX_PARTS = 16
 MAX_SEG = 1_048_576
+MAX_STORE = 1024
+MAX_CUSTOMERS = 8
 SUMMARY_WORDS = 2 + 3 * MAX_EXTENTS
 LEVEL_WORDS = 1540
 WORK_WORDS = LEVEL_WORDS * MAX_JOINS
@@ -38,7 +41,8 @@ WATCH_WORDS = 4
 
 MEANINGS = {
     1: "a text line with which no text of the rule can go on, or an end too early",
-    2: "in a text an extent above 4,294,967,295 or a seg above 1,048,576; a number given to a watch that is no distance",
+    2: "in a text an extent above 4,294,967,295 or a seg above 1,048,576; a number given to a watch that is no distance; "
+    "a store above 1,024; a number of customers that is not 1 to 8",
     3: "the segs of a plan do not add up to the log",
     4: "a plan text over 65,536 bytes, a ninth join open, a seventeenth part of one join",
     5: "words that are not a well-formed summary",
@@ -46,6 +50,7 @@ MEANINGS = {
     7: "words that are not a sound session or watch, too few of them among these",
     8: "more than 1,048,576 reads would result",
     9: "more than 256 different extents would result",
+    10: "the least shares add up to more than the store",
 }
 
 
@@ -103,6 +108,7 @@ def _load(library):
         "distances": lent + lent + lent,
         "misses": lent + number,
         "share": lent + number + place,
+        "split": number + lent + lent + lent,
         "plan": lent + lent + lent + lent,
         "list": lent + lent,
         "session_new": lent,
@@ -215,13 +221,17 @@ def _call(name, *arguments, calls=_LOCKED):
     return answer
 
 
+def _calls_on(lent):
+    """The calls that let other threads run where these views are of bytes objects and copies, else those that do not."""
+    return _UNLOCKED if all(type(view.obj) is bytes for view in lent) else _LOCKED
+
+
 def _written(name, out, *lent, work=()):
     """What the call on these views writes to the front of `out`, an array that nobody else has, nor has `work`; each view
     is released."""
-    fixed = all(type(view.obj) is bytes for view in lent)
     try:
         with memoryview(out) as room:
-            count = _call(name, *lent, *map(memoryview, work), room, calls=_UNLOCKED if fixed else _LOCKED)
+            count = _call(name, *lent, *map(memoryview, work), room, calls=_calls_on(lent))
     finally:
         for view in lent:
             view.release()
@@ -240,6 +250,21 @@ def _number(value):
     if not 0 <= number <= _MOST:
         raise OverflowError("not a number from 0 to 4,294,967,295: %d" % number)
     return number
+
+
+def _copied(words):
+    """The words of one summary as bytes, or None where there are not 2 + 3 v of them."""
+    with _words(words) as view:
+        # of more words than a summary can have, one too many is copied
+        copy = array("I", view[: SUMMARY_WORDS + 1].tobytes())
+    return copy.tobytes() if len(copy) > 1 and len(copy) == 2 + 3 * copy[1] else None
+
+
+def _end_to_end(summaries):
+    """The words of the summaries end to end, as bytes; no words at all where one of them has not 2 + 3 v: no words are no
+    summary, so that the library refuses them in its order."""
+    copies = [_copied(words) for words in summaries]
+    return b"" if None in copies else b"".join(copies)
 
 
 def summarize(reads):
@@ -269,6 +294,26 @@ def share(words, size):
     """The hits of such a cache divided by all reads, or None where there are no reads. Refusal: 5."""
     with _words(words) as summary:
         return _share("share", summary, _number(size))
+
+
+class Split(NamedTuple):
+    """The misses in all, and the shares, one for each customer, as an array('I')."""
+
+    misses: int
+    shares: array
+
+
+def split(store, leasts, summaries):
+    """The split of a store of `store` extents among customers, as a Split. `leasts` has each customer's least share, and
+    `summaries` each customer's summary, in the same order, each of which is copied. No share is below its least, and in
+    all they are no more than the store; of all such shares they have the fewest misses in all, then the smallest total,
+    then the smallest first share, second share, and so on. Another number of summaries than of least shares is refused
+    as a summary that is not well formed. Refusals: 2, 5, 10."""
+    number, shares = _number(min(operator.index(store), _MOST)), _zeros(MAX_CUSTOMERS)
+    with _words(leasts) as least, memoryview(shares) as room:
+        with memoryview(_end_to_end(tuple(summaries))).cast("I") as words:
+            misses = _call("split", number, least, words, room, calls=_calls_on([least, words]))
+        return Split(misses, shares[: len(least)])
 
 
 def plan(text, log):

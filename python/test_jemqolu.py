@@ -22,6 +22,8 @@ DISTANCES = [0, 0, 2, 0, 3, 1, 2]
 TEXT = b"(trace\n (read 7)\n (read 3)\n (read 7)\n (read 9)\n (read 3)\n (read 3)\n (read 9))\n"
 LISTING = b"(sizing\n (reads 7)\n (cold 3)\n (at 1 6)\n (at 2 4)\n (at 3 3))\n"
 PLAN = b"(join\n (seg 4)\n (seg 3))\n"
+ONES = [2, 1, 1, 1, 1]
+TWOS = [4, 2, 1, 2, 2, 1, 0, 2]
 MOST = 4_294_967_295
 
 
@@ -71,14 +73,20 @@ def not_words():
     yield ctypes.c_uint32(4)
 
 
-def calls_on_words():
-    """Every call that takes words, as a function of them, with good arguments beside."""
+def calls_on_lent_words():
+    """Every call that reads words where they stand, as a function of them, with good arguments beside."""
     yield jemqolu.summarize
     yield from (lambda words: jemqolu.join(words, SUMMARY), lambda words: jemqolu.join(SUMMARY, words))
     yield from (lambda words: jemqolu.distances(words, LOG), lambda words: jemqolu.distances([0, 0], words))
     yield from (lambda words: jemqolu.misses(words, 2), lambda words: jemqolu.share(words, 2))
-    yield lambda words: jemqolu.plan(PLAN, words)
+    yield from (lambda words: jemqolu.plan(PLAN, words), lambda words: jemqolu.split(2, words, [SUMMARY]))
+
+
+def calls_on_words():
+    """Every call that takes words, those that copy them too."""
+    yield from calls_on_lent_words()
     yield from (jemqolu.Session.resume, jemqolu.Watch.resume)
+    yield from (lambda words: jemqolu.split(2, [0], [words]), lambda words: jemqolu.split(2, [0, 0], [SUMMARY, words]))
 
 
 def calls_on_sessions():
@@ -92,12 +100,14 @@ def calls_on_watches():
     yield from (lambda watch: watch.read(1), lambda watch: watch.misses(), lambda watch: watch.share())
 
 
-class Answers(unittest.TestCase):
+class Refusing(unittest.TestCase):
     def refused(self, number, call, *arguments):
         with self.assertRaises(jemqolu.Refusal) as caught:
             call(*arguments)
         self.assertEqual(caught.exception.number, number)
 
+
+class Answers(Refusing):
     def test_words_in_all_forms(self):
         for log in words_in_all_forms(LOG):
             self.assertEqual(jemqolu.summarize(log).tolist(), SUMMARY)
@@ -128,12 +138,16 @@ class Answers(unittest.TestCase):
     def test_what_is_handed_in_is_unchanged(self):
         log, text = array("I", LOG), bytearray(TEXT)
         jemqolu.summarize(log), jemqolu.distances(SUMMARY, log), jemqolu.plan(PLAN, log), jemqolu.listing(text)
-        self.assertEqual((log.tolist(), bytes(text)), (LOG, TEXT))
-        log.append(1), text.append(1)
+        leasts, words = array("I", [1, 0]), array("I", SUMMARY)
+        jemqolu.split(3, leasts, [words, words])
+        self.assertEqual((log.tolist(), bytes(text), leasts.tolist(), words.tolist()), (LOG, TEXT, [1, 0], SUMMARY))
+        log.append(1), text.append(1), leasts.append(1), words.append(1)
 
     def test_a_failed_call_lets_go(self):
         log, failures = array("I", LOG), []
-        for call in (lambda: jemqolu.distances(None, log), lambda: jemqolu.distances([5], log), lambda: jemqolu.join(log, 5)):
+        calls = (lambda: jemqolu.distances(None, log), lambda: jemqolu.distances([5], log), lambda: jemqolu.join(log, 5))
+        calls += (lambda: jemqolu.split(2, log, None), lambda: jemqolu.split(2, [0, 0], [log, 5]))
+        for call in calls:
             with self.assertRaises((TypeError, jemqolu.Refusal)):
                 try:
                     call()
@@ -141,7 +155,7 @@ class Answers(unittest.TestCase):
                     failures.append(failure)
                     log.append(1)
                     raise
-        self.assertEqual(len(log), len(LOG) + 3)
+        self.assertEqual(len(log), len(LOG) + 5)
 
     def test_no_cells(self):
         for none in words_in_all_forms([]):
@@ -182,7 +196,7 @@ class Answers(unittest.TestCase):
         self.refused(8, full.read, 0)
 
     def test_refusals_and_their_meanings(self):
-        self.assertEqual(sorted(jemqolu.MEANINGS), list(range(1, 10)))
+        self.assertEqual(sorted(jemqolu.MEANINGS), list(range(1, 11)))
         self.refused(1, jemqolu.listing, "(trace\n (read \u00e9))\n")
         self.refused(1, jemqolu.listing, "\ud800")
         self.refused(2, jemqolu.listing, b"(trace\n (read 4294967296))\n")
@@ -193,8 +207,76 @@ class Answers(unittest.TestCase):
         self.refused(8, jemqolu.summarize, array("I", bytes(4 * (jemqolu.MAX_READS + 1))))
         self.refused(8, jemqolu.distances, [0, 0], array("I", bytes(4 * (jemqolu.MAX_READS + 1))))
         self.refused(9, jemqolu.summarize, range(257))
+        self.refused(10, jemqolu.split, 2, [1, 2], [ONES, TWOS])
         refusal = pickle.loads(pickle.dumps(jemqolu.Refusal(7)))
         self.assertEqual((refusal.number, str(refusal)), (7, "refused with 7: " + jemqolu.MEANINGS[7]))
+
+
+class Splits(Refusing):
+    """One store split among customers: what the wrapper makes of lists of summaries."""
+
+    def test_the_shares(self):
+        for store, leasts, summaries, misses, shares in (
+            (2, [0, 0], [ONES, TWOS], 4, [0, 2]),
+            (1, [0, 0], [ONES, ONES], 3, [0, 1]),
+            (9, [0, 0], [ONES, ONES], 2, [1, 1]),
+            (9, [0, 7], [ONES, ONES], 2, [1, 7]),
+            (0, [0], [[0, 0]], 0, [0]),
+            (1024, [0] * 8, [TWOS] * 8, 16, [2] * 8),
+        ):
+            split = jemqolu.split(store, leasts, summaries)
+            self.assertEqual((split.misses, split.shares), (misses, array("I", shares)))
+            self.assertEqual(misses, sum(map(jemqolu.misses, summaries, shares)))
+
+    def test_all_forms(self):
+        wanted = jemqolu.split(3, [1, 0], [SUMMARY, TWOS])
+        for leasts in words_in_all_forms([1, 0]):
+            self.assertEqual(jemqolu.split(3, leasts, [SUMMARY, TWOS]), wanted)
+        for summary in words_in_all_forms(SUMMARY):
+            self.assertEqual(jemqolu.split(Index(3), [1, 0], iter([summary, TWOS])), wanted)
+        out_of_place = memoryview(b"\0" + array("I", SUMMARY).tobytes())[1:].cast("I")
+        self.assertEqual(jemqolu.split(3, [1, 0], (out_of_place, TWOS)), wanted)
+
+    def test_refusals_in_order(self):
+        bad, good = [SUMMARY, TWOS[1:]], [SUMMARY, TWOS]
+        for store in (1025, MOST, MOST + 1, 1 << 64, 1 << 200):
+            self.refused(2, jemqolu.split, store, [MOST, 1], bad)
+        for customers in (0, 9, 100_000):
+            self.refused(2, jemqolu.split, 2, [MOST] * customers, bad)
+            self.refused(2, jemqolu.split, 2, [0] * customers, [TWOS] * customers)
+        self.refused(5, jemqolu.split, 2, [MOST, 1], bad)
+        for leasts in ([0, 3], [2, 1], [MOST, 0], [MOST, 1], [MOST, MOST], [1 << 31, 1 << 31]):
+            self.refused(10, jemqolu.split, 2, leasts, good)
+        self.assertEqual(jemqolu.split(2, [1, 1], good).shares.tolist(), [1, 1])
+
+    def not_summaries(self, summaries):
+        """Summaries that are refused, in the library's order, whatever their words are end to end."""
+        self.refused(5, jemqolu.split, 2, [0, 0], summaries)
+        self.refused(5, jemqolu.split, 2, [2, 1], summaries)
+        self.refused(2, jemqolu.split, 1025, [2, 1], summaries)
+        self.refused(2, jemqolu.split, 2, [0] * 9, summaries)
+
+    def test_words_that_are_summaries_only_end_to_end(self):
+        whole = SUMMARY + TWOS
+        for cut in range(len(whole) + 1):
+            if cut != len(SUMMARY):
+                self.not_summaries([whole[:cut], array("I", whole[cut:])])
+        for summaries in ([], [whole], [SUMMARY, TWOS, []], [[], SUMMARY, TWOS], [TWOS] * 9, [TWOS] * 100_000):
+            self.not_summaries(summaries)
+
+    def test_bad_summaries(self):
+        large, huge = [300, 257, *range(257), *range(257), 43] + [0] * 256, array("I", bytes(1 << 24))
+        for words in ([], [0], [1, 0], [0, MOST], [0, 0, 0], ONES[:4], ONES + [0], [3] + ONES[1:], large, huge):
+            self.not_summaries([ONES, words])
+            self.not_summaries([words, ONES])
+
+    def test_wrong_kinds(self):
+        for store in (None, 2.0, "2", [2]):
+            self.assertRaises(TypeError, jemqolu.split, store, [0], [TWOS])
+        for store in (-1, -(1 << 64)):
+            self.assertRaises(OverflowError, jemqolu.split, store, [0], [TWOS])
+        for summaries in (None, 5, TWOS, array("I", TWOS), "12", b"12", [None], [TWOS, 5], [[TWOS]], {1: TWOS}):
+            self.assertRaises(TypeError, jemqolu.split, 2, [0], summaries)
 
 
 class WrongKinds(unittest.TestCase):
@@ -232,9 +314,7 @@ class WrongKinds(unittest.TestCase):
 
     def test_words_out_of_place(self):
         words = memoryview(bytearray(4 * 2050))[1 : 1 + 4 * 2049].cast("I")
-        for call in calls_on_words():
-            if call.__qualname__.endswith("resume"):
-                continue
+        for call in calls_on_lent_words():
             self.assertRaises(ValueError, call, words)
         session = jemqolu.Session()
         session.words = words
@@ -253,10 +333,12 @@ class WrongKinds(unittest.TestCase):
         class Clearing(Index):
             def __index__(self):
                 log.clear()
-                return 3
+                return self.value
 
-        log[10] = Clearing(0)
+        log[10] = Clearing(3)
         self.assertEqual(jemqolu.summarize(log)[0], 50)
+        log[:] = [[Clearing(4), *TWOS[1:]], TWOS]
+        self.assertEqual(jemqolu.split(4, [0, 0], log).shares.tolist(), [2, 2])
 
 
 class States(unittest.TestCase):
@@ -372,6 +454,12 @@ class Threads(unittest.TestCase):
             words[1] = 2 if words[1] == 256 else 256
 
         self.beside(change, lambda: jemqolu.join(words, words), 300)
+
+    def test_a_split_that_another_thread_writes_to(self):
+        leasts, words, summaries = array("I", [0, 1]), array("I", TWOS), [TWOS, TWOS]
+        self.beside(self.resizing(leasts, leasts[:]), lambda: jemqolu.split(3, leasts, [TWOS, TWOS]), 2000)
+        self.beside(self.resizing(words, words[:]), lambda: jemqolu.split(3, leasts, [words, words]), 2000)
+        self.beside(self.resizing(summaries, summaries[:]), lambda: jemqolu.split(3, [0, 1], summaries), 2000)
 
     def test_a_session_that_another_thread_puts_away(self):
         session = session_of(LOG)

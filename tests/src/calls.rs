@@ -4,6 +4,7 @@
 use crate::guard::{Cell, Lent};
 use crate::plain::plans::{Carried, LEVEL_WORDS};
 use crate::plain::session::{self, Reading};
+use crate::plain::splits::Split;
 use crate::plain::watch;
 use crate::{ffi, Answer};
 
@@ -67,6 +68,17 @@ pub fn share(words: &[u32], size: u32) -> Answer<Option<f64>> {
     let answer = ffi::share(words.cells(), size, &mut share.cells_mut()[0]);
     words.assert_kept();
     shared(answer, &share)
+}
+
+/// The split of a store, in a buffer of `room` words.
+#[track_caller]
+pub fn split(store: u32, leasts: &[u32], summaries: &[u32], room: usize) -> Answer<Split> {
+    let (leasts, summaries, mut shares) = (Lent::holding(leasts), Lent::holding(summaries), Lent::room(room));
+    let answer = ffi::split(store, leasts.cells(), summaries.cells(), shares.cells_mut());
+    leasts.assert_kept();
+    summaries.assert_kept();
+    let count = answer.map(|_| leasts.cells().len());
+    written(count, &shares).and_then(|shares| answer.map(|misses| Split { misses: misses as u64, shares }))
 }
 
 /// A plan carried out, in so many work words and a buffer of `room` words.

@@ -23,6 +23,15 @@ mod raw {
         ) -> i64;
         pub fn jemqolu_misses(words: *const u32, words_len: usize, size: u32) -> i64;
         pub fn jemqolu_share(words: *const u32, words_len: usize, size: u32, share: *mut f64) -> i64;
+        pub fn jemqolu_split(
+            store: u32,
+            leasts: *const u32,
+            leasts_len: usize,
+            summaries: *const u32,
+            summaries_len: usize,
+            shares: *mut u32,
+            shares_len: usize,
+        ) -> i64;
         pub fn jemqolu_plan(
             text: *const u8,
             text_len: usize,
@@ -76,6 +85,21 @@ pub fn misses(words: &[u32], size: u32) -> Answer<usize> {
 /// The hit share of a cache of `size` extents; 1, or 0 where there are no reads.
 pub fn share(words: &[u32], size: u32, share: &mut f64) -> Answer<usize> {
     answer(unsafe { raw::jemqolu_share(words.as_ptr(), words.len(), size, share) })
+}
+
+/// The split of a store among customers; the misses in all.
+pub fn split(store: u32, leasts: &[u32], summaries: &[u32], shares: &mut [u32]) -> Answer<usize> {
+    answer(unsafe {
+        raw::jemqolu_split(
+            store,
+            leasts.as_ptr(),
+            leasts.len(),
+            summaries.as_ptr(),
+            summaries.len(),
+            shares.as_mut_ptr(),
+            shares.len(),
+        )
+    })
 }
 
 /// The summary of `log` by a joining plan; the words written.

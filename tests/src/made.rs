@@ -1,4 +1,4 @@
-//! Made inputs: traces, summaries and sessions that no trace has, and plans.
+//! Made inputs: traces, summaries and sessions that no trace has, least shares, and plans.
 
 use crate::plain::plans::{Plan, MAX_PARTS};
 use crate::plain::session::{self, sums_over};
@@ -112,6 +112,22 @@ pub fn summary(random: &mut Random, most_extents: usize) -> Vec<u32> {
     let extents = extents(random, v);
     let warm = random.below(5000);
     summary_over(random, &extents, warm)
+}
+
+/// Least shares of one customer or more: all 0, small ones, or such as add up to at most the store, to exactly the store,
+/// or to one more.
+pub fn leasts(random: &mut Random, store: u32, customers: usize) -> Vec<u32> {
+    let mut exact = split(random, store as usize, customers);
+    match random.below(5) {
+        0 => vec![0; customers],
+        1 => (0..customers).map(|_| random.below(3) as u32).collect(),
+        2 => exact.iter().map(|least| random.below(*least as usize + 1) as u32).collect(),
+        3 => exact,
+        _ => {
+            exact[random.below(customers)] += 1;
+            exact
+        }
+    }
 }
 
 /// A sound session with these extents and so many reads that are not cold, whether or not a trace has it.

@@ -2,7 +2,7 @@
 
 /// A text line with which no text of the rule can go on, or an end too early.
 pub const LINE: i64 = 1;
-/// An extent, a seg or a watched distance that is too large.
+/// An extent, a seg, a watched distance or a store that is too large, or a number of customers that is not 1 to 8.
 pub const NUMBER: i64 = 2;
 /// The segs of a plan do not add up to the log.
 pub const SEGS: i64 = 3;
@@ -18,3 +18,5 @@ pub const STATE: i64 = 7;
 pub const READS: i64 = 8;
 /// Too many different extents would result.
 pub const EXTENTS: i64 = 9;
+/// The least shares add up to more than the store.
+pub const SHARES: i64 = 10;

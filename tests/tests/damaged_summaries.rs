@@ -1,6 +1,6 @@
 //! Words that may or may not be a summary, given to every call that takes one.
 
-use jemqolu_tests::plain::{summary, MAX_READS};
+use jemqolu_tests::plain::{splits, summary, MAX_READS};
 use jemqolu_tests::random::Random;
 use jemqolu_tests::tally::Tally;
 use jemqolu_tests::{calls, made};
@@ -25,6 +25,7 @@ fn compare(tally: &mut Tally, seen: &mut Seen, words: &[u32]) {
     tally.same(calls::distances(words, &[9, 3, 9], 3), summary::distances_after(words, &[9, 3, 9]), &words);
     tally.same(calls::misses(words, 2), summary::misses(words, 2), &words);
     tally.same(calls::share(words, 2), summary::share(words, 2), &words);
+    tally.same(calls::split(2, &[0], words, 1), splits::split(2, &[0], words), &words);
 }
 
 /// Summaries to damage: of traces, and that no trace has; without extents, with few, and with 256.

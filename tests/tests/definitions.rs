@@ -1,8 +1,9 @@
 //! The plain definitions among themselves: they are what the library is compared with.
 
 use jemqolu_tests::made;
+use jemqolu_tests::plain::splits::{self, Customer};
 use jemqolu_tests::plain::trace::{self, Stack};
-use jemqolu_tests::plain::{cache, logs, plans, session, summary};
+use jemqolu_tests::plain::{cache, logs, plans, session, split_tables, summary};
 use jemqolu_tests::random::Random;
 use jemqolu_tests::tally::Tally;
 
@@ -98,6 +99,46 @@ fn a_listing_has_the_misses_of_the_caches() {
         tally.same(logs::list(&logs::text(trace)), Ok(wanted.into_bytes()), trace);
     }
     tally.at_least(150);
+}
+
+#[test]
+fn a_table_gives_the_best_of_all_lists_of_shares() {
+    let mut tally = Tally::new("splits by a table and by all allowed lists");
+    let mut random = Random::new(15);
+    for round in 0..4000 {
+        let (customers, most) = [(1, 60), (2, 40), (3, 14), (4, 9), (5, 6), (8, 3)][round % 6];
+        let store = random.below(most + 1) as u32;
+        let summaries: Vec<u32> = (0..customers).flat_map(|_| made::summary(&mut random, 1 + most)).collect();
+        let leasts = made::leasts(&mut random, store, customers);
+        let all = splits::split(store, &leasts, &summaries);
+        tally.same(split_tables::split(store, &leasts, &summaries), all, &(store, &leasts, &summaries));
+    }
+    tally.at_least(4000);
+}
+
+#[test]
+fn a_customer_misses_as_its_summary_says() {
+    let mut tally = Tally::new("customers by caches and by summaries");
+    for log in traces() {
+        let words = summary::of(&log);
+        tally.same(Customer::of_words(30, 2, &words), Ok(Customer::of_log(30, 2, &log)), &log);
+    }
+    tally.at_least(1200);
+}
+
+#[test]
+fn the_allowed_lists_are_all_lists_that_are_allowed() {
+    let mut tally = Tally::new("allowed lists of shares");
+    for (store, least) in (0..=6_u32).flat_map(|store| (0..=3_u32).map(move |least| (store, least))) {
+        let digits = |number: u32| [number / 64, number / 8 % 8, number % 8];
+        let lists = (0..512).map(digits);
+        let wanted: Vec<Vec<u32>> = lists
+            .filter(|shares| shares[1] >= least && shares.iter().sum::<u32>() <= store)
+            .map(|shares| shares.to_vec())
+            .collect();
+        tally.same(splits::allowed(store, &[0, least, 0]), wanted, &(store, least));
+    }
+    tally.at_least(28);
 }
 
 #[test]

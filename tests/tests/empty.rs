@@ -18,6 +18,10 @@ fn a_slice_of_no_words_may_have_any_pointer() {
     assert_eq!(ffi::distances(&[0, 0], &[4], &mut []), Err(refusal::ROOM));
     assert_eq!(ffi::misses(&[], 1), Err(refusal::SUMMARY));
     assert_eq!(ffi::share(&[], 1, &mut share), Err(refusal::SUMMARY));
+    assert_eq!(ffi::split(0, &[], &[], &mut []), Err(refusal::NUMBER));
+    assert_eq!(ffi::split(0, &[0], &[], &mut []), Err(refusal::SUMMARY));
+    assert_eq!(ffi::split(0, &[1], &[0, 0], &mut []), Err(refusal::SHARES));
+    assert_eq!(ffi::split(0, &[0], &[0, 0], &mut []), Err(refusal::ROOM));
     assert_eq!(ffi::session_new(&mut []), Err(refusal::ROOM));
     assert_eq!(ffi::session_read(&mut [], 1, &mut sums_read), Err(refusal::STATE));
     assert_eq!(ffi::session_summary(&[], &mut []), Err(refusal::STATE));

@@ -2,7 +2,7 @@
 
 use jemqolu_tests::plain::plans::{self, Plan, LEVEL_WORDS};
 use jemqolu_tests::plain::session::{self, WORDS};
-use jemqolu_tests::plain::{logs, summary, trace, watch};
+use jemqolu_tests::plain::{logs, splits, summary, trace, watch};
 use jemqolu_tests::random::Random;
 use jemqolu_tests::tally::Tally;
 use jemqolu_tests::{ffi, made, Answer};
@@ -31,6 +31,33 @@ fn summaries() {
         }
     }
     tally.at_least(150);
+}
+
+/// Compares a split and every word of a buffer, the front of which is lent.
+fn compare_split(tally: &mut Tally, leasts: &[u32], words: &[u32], room: usize) {
+    let mut out = [9; 6];
+    let misses = ffi::split(4, leasts, words, &mut out[..room]).map(|misses| misses as u64);
+    let wanted = splits::within(&splits::split(4, leasts, words), room);
+    let mut left = [9; 6];
+    let wanted = wanted.map(|split| {
+        left[..leasts.len()].copy_from_slice(&split.shares);
+        split.misses
+    });
+    tally.same((misses, out), (wanted, left), &(leasts, words, room));
+}
+
+#[test]
+fn customers_of_a_store() {
+    let mut tally = Tally::new("least shares, summaries and shares that end early");
+    let logs = [&[4, 4][..], &[7, 3, 7, 9, 3, 3, 9], &[], &[1, 2, 1, 2], &[5]];
+    let whole: Vec<u32> = logs.iter().flat_map(|log| summary::of(log)).collect();
+    let leasts = [0, 1, 0, 1, 4, 0];
+    for len in 0..=whole.len() {
+        for (customers, room) in (0..=6).flat_map(|customers| (0..=6).map(move |room| (customers, room))) {
+            compare_split(&mut tally, &leasts[..customers], &whole[..len], room);
+        }
+    }
+    tally.at_least(1500);
 }
 
 #[test]

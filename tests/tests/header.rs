@@ -1,17 +1,19 @@
 //! The header: its calls are those declared in `ffi`, and its limits and refusals those of the definitions.
 
 use jemqolu_tests::header::{number, HEADER};
-use jemqolu_tests::plain::{plans, session, watch, MAX_EXTENTS, MAX_READS};
+use jemqolu_tests::plain::{plans, session, splits, watch, MAX_EXTENTS, MAX_READS};
 use jemqolu_tests::refusal;
 
 /// The declarations as they stand in the header, line ends and indents aside.
-const CALLS: [&str; 16] = [
+const CALLS: [&str; 17] = [
     "jemqolu_summarize(const uint32_t *reads, size_t reads_len, uint32_t *out, size_t out_len)",
     "jemqolu_join(const uint32_t *a, size_t a_len, const uint32_t *b, size_t b_len, uint32_t *out, size_t out_len)",
     "jemqolu_distances(const uint32_t *prefix, size_t prefix_len, const uint32_t *reads, size_t reads_len, \
      uint32_t *out, size_t out_len)",
     "jemqolu_misses(const uint32_t *words, size_t words_len, uint32_t size)",
     "jemqolu_share(const uint32_t *words, size_t words_len, uint32_t size, double *share)",
+    "jemqolu_split(uint32_t store, const uint32_t *leasts, size_t leasts_len, \
+     const uint32_t *summaries, size_t summaries_len, uint32_t *shares, size_t shares_len)",
     "jemqolu_plan(const uint8_t *text, size_t text_len, const uint32_t *log, size_t log_len, \
      uint32_t *work, size_t work_len, uint32_t *out, size_t out_len)",
     "jemqolu_list(const uint8_t *text, size_t text_len, uint8_t *out, size_t out_len)",
@@ -41,6 +43,8 @@ fn the_header_has_the_limits_of_the_definitions() {
     assert_eq!(number("MAX_JOINS"), plans::MAX_DEPTH as u64);
     assert_eq!(number("MAX_PARTS"), plans::MAX_PARTS as u64);
     assert_eq!(number("MAX_SEG"), MAX_READS);
+    assert_eq!(number("MAX_STORE"), u64::from(splits::MAX_STORE));
+    assert_eq!(number("MAX_CUSTOMERS"), splits::MAX_CUSTOMERS as u64);
     assert_eq!(number("SUMMARY_WORDS"), 2 + 3 * MAX_EXTENTS as u64);
     assert_eq!(number("LEVEL_WORDS"), plans::LEVEL_WORDS as u64);
     assert_eq!(number("WORK_WORDS"), (plans::LEVEL_WORDS * plans::MAX_DEPTH) as u64);
@@ -61,5 +65,6 @@ fn the_header_names_the_refusals() {
     assert_eq!(["LINE", "NUMBER", "SEGS"].map(named), [refusal::LINE, refusal::NUMBER, refusal::SEGS]);
     assert_eq!(["PLAN", "SUMMARY", "ROOM"].map(named), [refusal::PLAN, refusal::SUMMARY, refusal::ROOM]);
     assert_eq!(["STATE", "READS", "EXTENTS"].map(named), [refusal::STATE, refusal::READS, refusal::EXTENTS]);
-    assert_eq!(HEADER.matches("    JEMQOLU_REFUSED_").count(), 9);
+    assert_eq!(named("SHARES"), refusal::SHARES);
+    assert_eq!(HEADER.matches("    JEMQOLU_REFUSED_").count(), 10);
 }

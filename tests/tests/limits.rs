@@ -3,8 +3,9 @@
 use jemqolu_tests::guard::Lent;
 use jemqolu_tests::plain::plans::{Carried, Plan, LEVEL_WORDS};
 use jemqolu_tests::plain::session::{self, Reading, WORDS};
+use jemqolu_tests::plain::splits::{Split, MAX_CUSTOMERS, MAX_STORE};
 use jemqolu_tests::plain::trace::Stack;
-use jemqolu_tests::plain::{logs, summary, MAX_READS};
+use jemqolu_tests::plain::{logs, split_tables, summary, MAX_READS};
 use jemqolu_tests::random::Random;
 use jemqolu_tests::tally::Tally;
 use jemqolu_tests::{calls, ffi, made, refusal};
@@ -47,6 +48,25 @@ fn whole_traces() {
     tally.same(calls::join(&front, &back, 770), Ok(whole), &MOST);
     tally.same(calls::join(&front, &summary::of(&trace[..2]), 770).map(|words| words[0]), Ok(400_002), &MOST);
     tally.at_least(7);
+}
+
+#[test]
+fn splits() {
+    let mut tally = Tally::new("splits among readers of long traces");
+    let (trace, distances) = long_trace();
+    let whole = summary::with_distances(&trace[..MOST], &distances[..MOST]);
+    let leasts = [0; MAX_CUSTOMERS];
+    let one = [MAX_READS as u32, 1, 5, 5, MAX_READS as u32 - 1];
+    for words in [&whole[..], &one] {
+        let summaries = words.repeat(MAX_CUSTOMERS);
+        for store in [0, 1, 7, 9, 100, MAX_STORE] {
+            let wanted = split_tables::split(store, &leasts, &summaries);
+            tally.same(calls::split(store, &leasts, &summaries, MAX_CUSTOMERS), wanted, &store);
+        }
+        let none = Split { misses: MAX_CUSTOMERS as u64 * MAX_READS, shares: leasts.to_vec() };
+        tally.same(calls::split(0, &leasts, &summaries, MAX_CUSTOMERS), Ok(none), &0);
+    }
+    tally.at_least(14);
 }
 
 #[test]

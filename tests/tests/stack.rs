@@ -2,6 +2,7 @@
 
 use jemqolu_tests::header::number;
 use jemqolu_tests::plain::plans::{Plan, LEVEL_WORDS, MAX_DEPTH, MAX_PARTS};
+use jemqolu_tests::plain::splits::{MAX_CUSTOMERS, MAX_STORE};
 use jemqolu_tests::plain::{logs, session, MAX_READS};
 use jemqolu_tests::{ffi, Answer};
 use std::thread;
@@ -50,6 +51,19 @@ fn summaries() {
     assert_eq!(with_little_stack(|| ffi::distances(&a, &trace[1 << 19..], &mut distances)), Ok(1 << 19));
     assert!(with_little_stack(|| ffi::misses(&out, 9)).is_ok());
     assert_eq!(with_little_stack(|| ffi::share(&out, 9, &mut share)), Ok(1));
+}
+
+#[test]
+fn splits() {
+    let (trace, mut one) = (long_trace(), [0; 770]);
+    assert_eq!(with_little_stack(|| ffi::summarize(&trace, &mut one)), Ok(770));
+    let summaries = one.repeat(MAX_CUSTOMERS);
+    let mut shares = [0; MAX_CUSTOMERS];
+    for leasts in [[0; MAX_CUSTOMERS], [MAX_STORE / MAX_CUSTOMERS as u32; MAX_CUSTOMERS]] {
+        assert!(with_little_stack(|| ffi::split(MAX_STORE, &leasts, &summaries, &mut shares)).is_ok());
+        assert!(shares.iter().sum::<u32>() > 0, "{shares:?}");
+    }
+    assert!(with_little_stack(|| ffi::split(MAX_STORE, &[MAX_STORE; 8], &summaries, &mut shares)).is_err());
 }
 
 #[test]

@@ -4,6 +4,8 @@ pub mod cache;
 pub mod logs;
 pub mod plans;
 pub mod session;
+pub mod split_tables;
+pub mod splits;
 pub mod summary;
 pub mod texts;
 pub mod trace;

@@ -118,11 +118,16 @@ pub fn distances_after(prefix: &[u32], reads: &[u32]) -> Answer<Vec<u32>> {
     Ok(Stack(prefix.recents.to_vec()).distances(reads))
 }
 
-/// The call for misses: the cold reads and the reads of a distance above the size.
+/// The misses at a size: the cold reads and the reads of a distance above the size.
+pub fn misses_at(summary: &Summary, size: u32) -> u64 {
+    let above = summary.counts.iter().skip(size as usize).map(|count| u64::from(*count));
+    summary.firsts.len() as u64 + above.sum::<u64>()
+}
+
+/// The call for misses.
 pub fn misses(words: &[u32], size: u32) -> Answer<u64> {
     let summary = well_formed(words).ok_or(refusal::SUMMARY)?;
-    let above = summary.counts.iter().skip(size as usize).map(|count| u64::from(*count));
-    Ok(summary.firsts.len() as u64 + above.sum::<u64>())
+    Ok(misses_at(&summary, size))
 }
 
 /// The call for the hit share.
