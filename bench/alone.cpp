@@ -27,6 +27,12 @@ static void joins(size_t count) {
     for (size_t i = 0; i < count; i++) join(a, b, out);
 }
 
+static void splits(size_t count) {
+    Words leasts(8, 0), shares(8);
+    Words summaries = summaries_of(8, 100000);
+    for (size_t i = 0; i < count; i++) split(1024, leasts, summaries, shares);
+}
+
 void lone_work(const std::string &kind, size_t units) {
     if (kind == "summary-skewed") return summary_of_kind(Kind::skewed, units);
     if (kind == "summary-uniform") return summary_of_kind(Kind::uniform, units);
@@ -34,5 +40,6 @@ void lone_work(const std::string &kind, size_t units) {
     if (kind == "distances-uniform") return distances_of_kind(Kind::uniform, units);
     if (kind == "session-256") return session_reads(units);
     if (kind == "join-256") return joins(units);
+    if (kind == "split-8") return splits(units);
     demand(false, "no such work: " + kind);
 }

@@ -10,6 +10,7 @@ int main(int count, char **words) {
         batch_tables();
         session_table();
         join_tables();
+        split_table();
         listing_table(given[1], given[2], given[3]);
         return 0;
     }

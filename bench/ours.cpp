@@ -38,6 +38,23 @@ Words summary_of(const Words &reads) {
     return out;
 }
 
+Words summaries_of(size_t customers, size_t reads) {
+    std::vector<Kind> kinds = all_kinds();
+    Words all;
+    for (size_t i = 0; i < customers; i++) {
+        Words one = summary_of(trace_of(kinds[i % kinds.size()], reads, 256, i + 1));
+        demand(one[1] == 256, "a customer's trace has fewer than 256 extents");
+        all.insert(all.end(), one.begin(), one.end());
+    }
+    return all;
+}
+
+uint32_t split(uint32_t store, const Words &leasts, const Words &summaries, Words &shares) {
+    int64_t answer = jemqolu_split(store, leasts.data(), leasts.size(), summaries.data(), summaries.size(),
+                                   shares.data(), shares.size());
+    return static_cast<uint32_t>(accepted(answer, "jemqolu_split"));
+}
+
 Words new_session() {
     Words session(JEMQOLU_SESSION_WORDS);
     accepted(jemqolu_session_new(session.data(), session.size()), "jemqolu_session_new");

@@ -14,6 +14,13 @@ size_t list(const std::string &text, Words &out);
 // The summary in a vector of its own length.
 Words summary_of(const Words &reads);
 
+// The summaries of so many customers end to end, each of a trace of its own with 256 extents: skewed, uniform and scan
+// in turn.
+Words summaries_of(size_t customers, size_t reads);
+
+// Fills `shares` from its front, a word for each least share, and answers the misses in all.
+uint32_t split(uint32_t store, const Words &leasts, const Words &summaries, Words &shares);
+
 // A session, one read of it, and its summary.
 Words new_session();
 uint32_t session_read(Words &session, uint32_t extent);

@@ -7,7 +7,8 @@
 void batch_tables();
 void session_table();
 void join_tables();
+void split_table();
 void listing_table(const std::string &sizing, const std::string &peer, const std::string &folder);
 
-// One kind of work alone, for a profiler: so many reads, or so many joins.
+// One kind of work alone, for a profiler: so many reads, joins or splits.
 void lone_work(const std::string &kind, size_t units);
