@@ -11,6 +11,8 @@ use Rattle.summary_calls.specs.declared.ShareAnswer.{ShareAnswer}
 use Rattle.summary_calls.specs.declared.ShareAnswer.the-variants.{Answered, Refused as NoShare}
 use Rattle.session.specs.declared.Answer.{Answer}
 use Rattle.session.specs.declared.Answer.the-variants.{Cold, Distance, Refused as NoRead}
+use Rattle.split_calls.specs.declared.SplitAnswer.{SplitAnswer}
+use Rattle.split_calls.specs.declared.SplitAnswer.the-variants.{Misses as SplitMisses, Refused as NoSplit}
 use Rattle.watch.specs.declared.Outcome.{Outcome}
 use Rattle.watch.specs.declared.Outcome.the-variants.{Counted, Refused as NotCounted}
 
@@ -56,6 +58,11 @@ sumsLeft (NoRead n) was = was
 abbrev pub noted : Outcome → ℤ
 noted Counted = pos 0
 noted (NotCounted n) = negative n
+
+-- the misses in all of a split, or the refusal
+abbrev pub divided : SplitAnswer → ℤ
+divided (SplitMisses n) = pos n
+divided (NoSplit n) = negative n
 
 -- the largest signed number
 abbrev pub mostSigned : ℕ

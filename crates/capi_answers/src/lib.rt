@@ -1,5 +1,6 @@
 // Answers as one signed number: what was asked for, or the negative of the refusal's number.
 use session::Answer;
+use split_calls::SplitAnswer;
 use summary_calls::HitShare;
 use summary_calls::MissCount;
 use summary_calls::ShareAnswer;
@@ -8,7 +9,7 @@ use watch::Outcome;
 ghost use mathlib.Core.Path.{_≡_};
 ghost use Prim.Native.Nat.{min};
 ghost use lib.IntN.{pos};
-ghost use Rattle.capi_answers.specs.Answers.{negative, mostSigned, countedMost, missed, shared, shareLeft, told, sumsLeft, noted};
+ghost use Rattle.capi_answers.specs.Answers.{negative, mostSigned, countedMost, missed, shared, shareLeft, told, sumsLeft, noted, divided};
 
 // The largest signed number.
 const MOST: usize = 9223372036854775807;
@@ -93,5 +94,15 @@ pub fn outcome(o: Outcome) -> i64
     match o {
         Outcome::Counted => 0,
         Outcome::Refused(n) => refusal(n),
+    }
+}
+
+// The misses in all of a split, or the refusal.
+pub fn split(a: SplitAnswer) -> i64
+    ensures { λ r. ⌜ r ≡ divided a ⌝ }
+{
+    match a {
+        SplitAnswer::Misses(n) => n as i64,
+        SplitAnswer::Refused(n) => refusal(n),
     }
 }

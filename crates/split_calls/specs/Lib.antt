@@ -2,3 +2,5 @@ pub mod Split
 pub mod Tables
 pub mod Cuts
 pub mod Calls
+pub mod Refusals
+pub mod Stepwise
