@@ -135,3 +135,9 @@ unfolding allFormed
 each-formed [] f w m = absurd (List·Memᴰ·not-nil m)
 each-formed (u ∷ ws) f w (List·Memᴰ·head e) = rw e (both (wellFormed u) (allFormed ws) f .0)
 each-formed (u ∷ ws) f w (List·Memᴰ·tail m) = each-formed ws (both (wellFormed u) (allFormed ws) f .1) w m
+
+-- and where each is, they pass it
+pub formed-each : (ws : List (List ℕ)) → ((w : List ℕ) → List·Memᴰ w ws → wellFormed w ≡ true) → allFormed ws ≡ true
+unfolding allFormed
+formed-each [] f = refl
+formed-each (w ∷ ws) f = rw (f w (List·Memᴰ·head refl)) (formed-each ws (λ u m. f u (List·Memᴰ·tail m)))

@@ -4,5 +4,6 @@ pub mod Groupings
 pub mod Plans
 pub mod Prefixes
 pub mod Counts
+pub mod Splits
 pub mod Whole
 pub mod Table

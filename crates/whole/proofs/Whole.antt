@@ -22,7 +22,9 @@ use Rattle.whole.proofs.Refusals.{calls-owed, no-trace}
 use Rattle.whole.proofs.Groupings.{session-outcome, grouping-outcome}
 use Rattle.whole.proofs.Plans.{plan-outcome}
 use Rattle.whole.proofs.Prefixes.{cutting-outcome}
+use Rattle.split_calls.proofs.Refusals.{refusals}
 use Rattle.whole.proofs.Counts.{counts}
+use Rattle.whole.proofs.Splits.{splits}
 
 -- a cache of this size holds the extent, by what was seen
 abbrev held : ℕ → Seen → Bool
@@ -88,6 +90,13 @@ runs t w = record {
   counts = λ c. counts c t w;
 }
 
--- demand 3
+-- demand 3, and the split of one store
 pub claim : Claim
-claim = record { calls = calls-owed; no-trace = no-trace; walks = walks; runs = runs }
+claim = record {
+  calls = calls-owed;
+  no-trace = no-trace;
+  walks = walks;
+  runs = runs;
+  split-refusals = refusals;
+  splits = splits;
+}

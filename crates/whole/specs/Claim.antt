@@ -22,7 +22,9 @@ use Rattle.texts.specs.Plans.{Plan, reads as planReads}
 use Rattle.texts.specs.PlanTexts.{planOf}
 use Rattle.plan_calls.specs.Calls.{workWords, runCall}
 use Rattle.whole.specs.Runs.{planned, sessionAfter, answersOf, accepted, Reply, gives, refused, outcome, Grouping, parts, logOf, grouped, roomFor, roomy}
+use Rattle.split_calls.specs.Refusals.{Refusals}
 use Rattle.whole.specs.Counts.{Counts}
+use Rattle.whole.specs.Splits.{Customers, Splits}
 use Rattle.whole.specs.Cuttings.{Cutting, cutParts, Follows, cutDistances, cutRoomy}
 
 -- a read's answer without its count of sums: a distance or cold, or its refusal
@@ -92,3 +94,7 @@ pub record Claim : Type 0 where
   pub walks : Walks
   -- and the rest
   pub runs : (t : List ℕ) → Within t → Claims t
+  -- a split of one store is refused exactly under the conditions of 2, 5, 10 and 6, in this order, and a refusal leaves every word
+  pub split-refusals : (store : ℕ) (leasts words shares : List ℕ) → Refusals store leasts words shares
+  -- and of logs within the limits it gives each customer its share: fewest misses in the customers' own caches, then the smallest total, then the smallest shares
+  pub splits : (logs : List (List ℕ)) (store : ℕ) (leasts buffer : List ℕ) → Customers logs store leasts → Splits logs store leasts buffer

@@ -1,5 +1,6 @@
 pub mod Runs
 pub mod Cuttings
 pub mod Counts
+pub mod Splits
 pub mod Claim
 pub mod Table
