@@ -58,7 +58,7 @@ enum jemqolu_refusal {
 #define JEMQOLU_LISTING_BYTES 8192 /* any listing */
 #define JEMQOLU_SESSION_WORDS 2049 /* a session */
 #define JEMQOLU_WATCH_WORDS 4      /* a watch */
-#define JEMQOLU_STACK_BYTES 65536  /* the stack of any call, beside what the thread and the caller use of it */
+#define JEMQOLU_STACK_BYTES 73728  /* the stack of any call, beside what the thread and the caller use of it */
 
 /* The summary of a list of reads, a whole part in one call.
  * Lent: the reads; `out`, as many words as the summary has. Answer: the words written. Refusals, in order: -8, -9, -6. */

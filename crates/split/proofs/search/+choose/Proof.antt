@@ -50,64 +50,66 @@ choose-returns : (t : ℕ) → choose-lts.Need-returns (choose-claims t) (choose
 choose-returns t c = λ ss store h. chosen-none ss store _ _ _ _ _ h (omega arith)
 
 choose-shared-slice-read-least : (t : ℕ) → choose-lts.Need-shared-slice-read-least (choose-claims t) (choose-at t) choose.Post
-choose-shared-slice-read-least t c = search needs
+choose-shared-slice-read-least t c = omega arith
 
 choose-cast-least : (t : ℕ) → choose-lts.Need-cast-least (choose-claims t) (choose-at t) choose.Post
 choose-cast-least t c = omega (arith, c .shared-slice-known4 .given 0)
 
 choose-sub-share-at : (t : ℕ) → choose-lts.Need-sub-share-at (choose-claims t) (choose-at t) choose.Post
-choose-sub-share-at t c = search needs
+choose-sub-share-at t c = omega arith
 
 choose-part-share-at-start : (t : ℕ) → choose-lts.Need-part-share-at-start (choose-claims t) (choose-at t) choose.Post
-choose-part-share-at-start t c = search needs
+choose-part-share-at-start t c = omega arith
 
 choose-part-share-at-end : (t : ℕ) → choose-lts.Need-part-share-at-end (choose-claims t) (choose-at t) choose.Post
-choose-part-share-at-end t c = search needs
+choose-part-share-at-end t c = omega arith
 
 choose-mul-share-at : (t : ℕ) → choose-lts.Need-mul-share-at (choose-claims t) (choose-at t) choose.Post
-choose-mul-share-at t c = search needs
+choose-mul-share-at t c = omega arith
 
 choose-shared-slice-read-share-at : (t : ℕ) → choose-lts.Need-shared-slice-read-share-at (choose-claims t) (choose-at t) choose.Post
-choose-shared-slice-read-share-at t c = search needs
+choose-shared-slice-read-share-at t c = omega arith
 
 choose-share-at-requires : (t : ℕ) → choose-lts.Need-share-at-requires (choose-claims t) (choose-at t) choose.Post
-choose-share-at-requires t c κs = let a = c .before .before .before .before .before .before .before .before in seeking _ _ _ _ _ _ _ (a .pre .1 .2) (omega arith)
+choose-share-at-requires t c κs = 
+    let a = c .before .before .before .before .before .before .before .before in
+    seeking (a .args .left) (a .args .costs .now) (a .args .table .now) (a .args .shares .now) (a .pre .1 .0) (a .pre .1 .1) (a .args .leasts .now) (a .pre .1 .2) (omega arith)
 
 choose-cast-shares : (t : ℕ) → choose-lts.Need-cast-shares (choose-claims t) (choose-at t) choose.Post
-choose-cast-shares t c = search needs
+choose-cast-shares t c = omega arith
 
 choose-slice-write-shares : (t : ℕ) → choose-lts.Need-slice-write-shares (choose-claims t) (choose-at t) choose.Post
-choose-slice-write-shares t c = search needs
+choose-slice-write-shares t c = omega arith
 
 choose-sub-choose : (t : ℕ) → choose-lts.Need-sub-choose (choose-claims t) (choose-at t) choose.Post
-choose-sub-choose t c = search needs
+choose-sub-choose t c = omega arith
 
 choose-part-choose-start : (t : ℕ) → choose-lts.Need-part-choose-start (choose-claims t) (choose-at t) choose.Post
-choose-part-choose-start t c = search needs
+choose-part-choose-start t c = omega arith
 
 choose-part-choose-end : (t : ℕ) → choose-lts.Need-part-choose-end (choose-claims t) (choose-at t) choose.Post
-choose-part-choose-end t c = search needs
+choose-part-choose-end t c = omega arith
 
 choose-sub-choose-2 : (t : ℕ) → choose-lts.Need-sub-choose-2 (choose-claims t) (choose-at t) choose.Post
-choose-sub-choose-2 t c = search needs
+choose-sub-choose-2 t c = omega arith
 
 choose-sub-choose-3 : (t : ℕ) → choose-lts.Need-sub-choose-3 (choose-claims t) (choose-at t) choose.Post
-choose-sub-choose-3 t c = search needs
+choose-sub-choose-3 t c = omega arith
 
 choose-part-choose-start-2 : (t : ℕ) → choose-lts.Need-part-choose-start-2 (choose-claims t) (choose-at t) choose.Post
-choose-part-choose-start-2 t c = search needs
+choose-part-choose-start-2 t c = omega arith
 
 choose-part-choose-end-2 : (t : ℕ) → choose-lts.Need-part-choose-end-2 (choose-claims t) (choose-at t) choose.Post
-choose-part-choose-end-2 t c = search needs
+choose-part-choose-end-2 t c = omega arith
 
 choose-sub-choose-4 : (t : ℕ) → choose-lts.Need-sub-choose-4 (choose-claims t) (choose-at t) choose.Post
-choose-sub-choose-4 t c = search needs
+choose-sub-choose-4 t c = omega arith
 
 choose-part-choose-start-3 : (t : ℕ) → choose-lts.Need-part-choose-start-3 (choose-claims t) (choose-at t) choose.Post
-choose-part-choose-start-3 t c = search needs
+choose-part-choose-start-3 t c = omega arith
 
 choose-part-choose-end-3 : (t : ℕ) → choose-lts.Need-part-choose-end-3 (choose-claims t) (choose-at t) choose.Post
-choose-part-choose-end-3 t c = search needs
+choose-part-choose-end-3 t c = omega arith
 
 choose-sub-choose-5 : (t : ℕ) → choose-lts.Need-sub-choose-5 (choose-claims t) (choose-at t) choose.Post
 choose-sub-choose-5 t c = word t (c .before .before .before)
@@ -116,13 +118,14 @@ choose-part-choose-start-4 : (t : ℕ) → choose-lts.Need-part-choose-start-4 (
 choose-part-choose-start-4 t c = word t (c .before .before .before)
 
 choose-part-choose-end-4 : (t : ℕ) → choose-lts.Need-part-choose-end-4 (choose-claims t) (choose-at t) choose.Post
-choose-part-choose-end-4 t c = search needs
+choose-part-choose-end-4 t c = omega arith
 
 choose-choose-requires : (t : ℕ) → choose-lts.Need-choose-requires (choose-claims t) (choose-at t) choose.Post
 choose-choose-requires t c κs = 
-    let a = c .before .before .before .before .before .before .before .before .before .before .before .before .before in (
+    let a = c .before .before .before .before .before .before .before .before .before .before .before .before .before in
+    let s = c .before .before .before .before .share-at in (
       omega (arith, a .pre .0, mid-len 1 (length (a .args .leasts .now)) (a .args .leasts .now) (omega arith)),
-      choosing-rest _ _ _ _ _ _ _ _ (a .pre .1 .2) (omega arith) (c .before .before .before .before .share-at .ensures),
+      choosing-rest (a .args .left) (a .args .costs .now) (a .args .table .now) (a .args .shares .now) (s .result) (a .pre .1 .0) (a .pre .1 .1) (a .args .leasts .now) (a .pre .1 .2) (omega arith) (s .ensures),
     )
 
 choose-same-length : (t : ℕ) → choose-lts.Need-same-length (choose-claims t) (choose-at t) choose.Post
@@ -133,7 +136,10 @@ choose-same-length t c =
 
 choose-returns-2 : (t : ℕ) → choose-lts.Need-returns-2 (choose-claims t) (choose-at t) choose.Post
 choose-returns-2 t c = 
-    λ ss store h. chosen-all _ _ _ _ _ ss store _ h (omega arith) (c .before .before .before .before .before .before .before .share-at .ensures) _ (c .before .before .choose .ensures) (long t c)
+    let a = c .before .before .before .before .before .before .before .before .before .before .before .before .before .before .before .before .args in
+    let s = c .before .before .before .before .before .before .before .share-at in
+    let k = c .before .before .choose in
+    λ ss store h. chosen-all (a .left) (a .costs .now) (a .table .now) (a .shares .now) (s .result) ss store (a .leasts .now) h (omega arith) (s .ensures) (k .last .1 .1 .1 .1 .0) (k .ensures) (long t c)
 
 pub +choose-spec : {M : Type 1} → statement M
 +choose-spec = close μ-choose λ t. choose-lts.spec (choose-claims t)

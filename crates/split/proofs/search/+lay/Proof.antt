@@ -90,7 +90,7 @@ lay-part-lay-start : (t : ℕ) → lay-lts.Need-part-lay-start (lay-claims t) (l
 lay-part-lay-start t c = inside t c
 
 lay-part-lay-end : (t : ℕ) → lay-lts.Need-part-lay-end (lay-claims t) (lay-at t) lay.Post
-lay-part-lay-end t c = search needs
+lay-part-lay-end t c = omega arith
 
 lay-sub-lay-2 : (t : ℕ) → lay-lts.Need-sub-lay-2 (lay-claims t) (lay-at t) lay.Post
 lay-sub-lay-2 t c = omega (arith, some t (c .before))
@@ -99,7 +99,7 @@ lay-part-lay-start-2 : (t : ℕ) → lay-lts.Need-part-lay-start-2 (lay-claims t
 lay-part-lay-start-2 t c = omega (arith, some t (c .before))
 
 lay-part-lay-end-2 : (t : ℕ) → lay-lts.Need-part-lay-end-2 (lay-claims t) (lay-at t) lay.Post
-lay-part-lay-end-2 t c = search needs
+lay-part-lay-end-2 t c = omega arith
 
 lay-sub-lay-3 : (t : ℕ) → lay-lts.Need-sub-lay-3 (lay-claims t) (lay-at t) lay.Post
 lay-sub-lay-3 t c = omega (arith, some t (c .before .before), c .before .before .before .before .before .before .before .before .pre .1 .costs-long)
@@ -108,7 +108,7 @@ lay-part-lay-start-3 : (t : ℕ) → lay-lts.Need-part-lay-start-3 (lay-claims t
 lay-part-lay-start-3 t c = omega (arith, some t (c .before .before), c .before .before .before .before .before .before .before .before .pre .1 .costs-long)
 
 lay-part-lay-end-3 : (t : ℕ) → lay-lts.Need-part-lay-end-3 (lay-claims t) (lay-at t) lay.Post
-lay-part-lay-end-3 t c = search needs
+lay-part-lay-end-3 t c = omega arith
 
 lay-sub-lay-4 : (t : ℕ) → lay-lts.Need-sub-lay-4 (lay-claims t) (lay-at t) lay.Post
 lay-sub-lay-4 t c = omega (arith, c .before .before .before .before .before .before .before .before .before .pre .1 .table-long)
@@ -117,7 +117,7 @@ lay-part-lay-start-4 : (t : ℕ) → lay-lts.Need-part-lay-start-4 (lay-claims t
 lay-part-lay-start-4 t c = omega (arith, c .before .before .before .before .before .before .before .before .before .pre .1 .table-long)
 
 lay-part-lay-end-4 : (t : ℕ) → lay-lts.Need-part-lay-end-4 (lay-claims t) (lay-at t) lay.Post
-lay-part-lay-end-4 t c = search needs
+lay-part-lay-end-4 t c = omega arith
 
 lay-lay-requires : (t : ℕ) → lay-lts.Need-lay-requires (lay-claims t) (lay-at t) lay.Post
 lay-lay-requires t c κs = 
@@ -128,7 +128,7 @@ lay-lay-requires t c κs =
     )
 
 lay-shared-slice-read-least : (t : ℕ) → lay-lts.Need-shared-slice-read-least (lay-claims t) (lay-at t) lay.Post
-lay-shared-slice-read-least t c = search needs
+lay-shared-slice-read-least t c = omega arith
 
 lay-cast-least : (t : ℕ) → lay-lts.Need-cast-least (lay-claims t) (lay-at t) lay.Post
 lay-cast-least t c = omega (arith, c .shared-slice-known3 .given 0)
@@ -140,7 +140,7 @@ lay-slice-aggregate-enter : (t : ℕ) → lay-lts.Need-slice-aggregate-enter (la
 lay-slice-aggregate-enter t c = sym (length-take-le _ _ (inside t (c .before .before .before .before .before .before .before .before .before .before .before)))
 
 lay-enter-requires : (t : ℕ) → lay-lts.Need-enter-requires (lay-claims t) (lay-at t) lay.Post
-lay-enter-requires t c κs = search needs
+lay-enter-requires t c κs = omega arith
 
 lay-same-length : (t : ℕ) → lay-lts.Need-same-length (lay-claims t) (lay-at t) lay.Post
 lay-same-length t c = 
