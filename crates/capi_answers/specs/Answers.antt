@@ -60,9 +60,9 @@ noted Counted = pos 0
 noted (NotCounted n) = negative n
 
 -- the misses in all of a split, or the refusal
-abbrev pub divided : SplitAnswer → ℤ
-divided (SplitMisses n) = pos n
-divided (NoSplit n) = negative n
+abbrev pub missedInAll : SplitAnswer → ℤ
+missedInAll (SplitMisses n) = pos n
+missedInAll (NoSplit n) = negative n
 
 -- the largest signed number
 abbrev pub mostSigned : ℕ

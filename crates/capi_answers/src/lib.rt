@@ -9,7 +9,7 @@ use watch::Outcome;
 ghost use mathlib.Core.Path.{_≡_};
 ghost use Prim.Native.Nat.{min};
 ghost use lib.IntN.{pos};
-ghost use Rattle.capi_answers.specs.Answers.{negative, mostSigned, countedMost, missed, shared, shareLeft, told, sumsLeft, noted, divided};
+ghost use Rattle.capi_answers.specs.Answers.{negative, mostSigned, countedMost, missed, shared, shareLeft, told, sumsLeft, noted, missedInAll};
 
 // The largest signed number.
 const MOST: usize = 9223372036854775807;
@@ -99,7 +99,7 @@ pub fn outcome(o: Outcome) -> i64
 
 // The misses in all of a split, or the refusal.
 pub fn split(a: SplitAnswer) -> i64
-    ensures { λ r. ⌜ r ≡ divided a ⌝ }
+    ensures { λ r. ⌜ r ≡ missedInAll a ⌝ }
 {
     match a {
         SplitAnswer::Misses(n) => n as i64,

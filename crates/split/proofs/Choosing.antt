@@ -1,7 +1,6 @@
 -- The shares are read off the table: the first customer's is the first that reaches the misses of the room, and the others have what it leaves.
 use mathlib.Core.Path.{_≡_, refl, sym, ap, _∙_}
-use mathlib.Core.Logic.{_≢_}
-use Prim.Native.Nat.{ℕ, suc, _+_, _-_, _*_, _≤_, _<_, _^_, min}
+use Prim.Native.Nat.{ℕ, suc, _+_, _-_, _≤_, _<_, min}
 use native.Mathlib.Omega.{arith}
 use mathlib.Core.List.{List, [], _∷_, _++_}
 use mathlib.Core.Bool.{true}
@@ -9,9 +8,9 @@ use lib.Dec.{leb, ltb}
 use lib.ListN.{length, take, drop, getD, set, length-drop, length-set}
 use borrow.Author.Tests.{leb-true, leb-false, ltb-true, ltb-false}
 use borrow.Rule.Slice.PartMut.{midOf, putMid}
-use Rattle.reuse.specs.Limits.{maxReads, maxExtents, maxCustomers}
+use Rattle.reuse.specs.Limits.{maxExtents}
 use Rattle.reuse.specs.Lists.{sum}
-use Rattle.reuse.specs.Summary.{extentsOf, missesOf, wellFormed}
+use Rattle.reuse.specs.Summary.{missesOf, wellFormed}
 use Rattle.reuse.proofs.Lists.{by-test, both}
 use Rattle.reuse.proofs.Formed.{formed}
 use Rattle.reuse_rows.proofs.Slices.{part-rest}
@@ -23,7 +22,7 @@ use Rattle.split_calls.proofs.Fewest.{misses-past}
 use Rattle.split_calls.proofs.Choice.{share-reaches}
 use Rattle.split_calls.proofs.Steps.{share-is, misses-small, fewest-small}
 use Rattle.split_rows.specs.Rows.{sizes, rooms}
-use Rattle.split.specs.Search.{Tabled, withShare, Seeking, Sought, Chooses, Choosing, Chosen}
+use Rattle.split.specs.Search.{withShare, Seeking, Sought, Chooses, Choosing, Chosen}
 use Rattle.split.proofs.Laying.{tabled-entries}
 
 -- no misses are saved above the most extents
@@ -41,11 +40,6 @@ module _ (w : List ℕ) (ws : List (List ℕ)) (store l : ℕ) (ls : List ℕ) (
   all-formed : (wellFormed w ≡ true) × (allFormed ws ≡ true)
   unfolding allFormed
   all-formed = both (wellFormed w) (allFormed ws) (h .formed)
-
-  -- the least shares in all
-  least-all : l + sum ls ≤ left
-  unfolding sum
-  least-all = h .fits
 
   -- the misses with a share that leaves the others theirs
   share-misses : (s : ℕ) → s + sum ls ≤ left → withShare costs (drop rooms table) left s ≡ missesOf w s + fewest ws ls (left - s)
@@ -95,9 +89,11 @@ module _ (w : List ℕ) (ws : List (List ℕ)) (store l : ℕ) (ls : List ℕ) (
       let (a, b, e) = reaching in
       let n : r ≤ smallestShare w ws l ls left =
       by-test (ltb (smallestShare w ws l ls left) r) (λ q. absurd (s .first (smallestShare w ws l ls left) a (ltb-true _ _ q) e)) (λ q. ltb-false (smallestShare w ws l ls left) r q) in
-      let k : r + sum ls ≤ left = omega arith in
-      (share-is w ws l ls left r (s .low) k (sym (share-misses r k) ∙ s .reached ∙ room-misses)
-      (λ u c d q. s .first u c d (share-misses u (omega arith) ∙ q ∙ sym room-misses)), k)
+      let k : r + sum ls ≤ left = omega arith in (
+        share-is w ws l ls left r (s .low) k (sym (share-misses r k) ∙ s .reached ∙ room-misses)
+            (λ u c d q. s .first u c d (share-misses u (omega arith) ∙ q ∙ sym room-misses)),
+        k,
+      )
 
   -- the others' shares can be read off what is left
   pub rest-chooses : (r : ℕ) → r + sum ls ≤ left → Chooses ws store ls (left - r) (drop sizes costs) (drop rooms table) (drop 1 (set shares 0 r))

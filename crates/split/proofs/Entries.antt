@@ -1,13 +1,13 @@
 -- One customer more before the others: where its summary is well formed and theirs are, nothing wraps, and the rows are those of it and them.
-use mathlib.Core.Path.{_≡_, refl, sym, ap, _∙_}
-use Prim.Native.Nat.{ℕ, suc, _+_, _-_, _*_, _≤_, _<_, _%_, _^_, min}
+use mathlib.Core.Path.{_≡_, sym, ap, _∙_}
+use Prim.Native.Nat.{ℕ, suc, _+_, _-_, _≤_, _<_, _%_, _^_, min}
 use native.Mathlib.Omega.{arith}
 use native.Mathlib.Nat.{zero-add}
 use mathlib.Core.List.{List, _∷_, map}
 use mathlib.Core.Bool.{true}
-use lib.ListN.{length, take, drop, getD, length-map}
+use lib.ListN.{length, drop, getD, length-map}
 use lib.Seq.{getD-take, getD-drop}
-use Rattle.reuse.specs.Limits.{maxReads, maxStore, maxCustomers}
+use Rattle.reuse.specs.Limits.{maxStore, maxCustomers}
 use Rattle.reuse.specs.Lists.{from, sum}
 use Rattle.reuse.specs.Summary.{extentsOf, missesOf, wellFormed}
 use Rattle.reuse.proofs.Formed.{Formed, formed}
@@ -19,7 +19,7 @@ use Rattle.split_calls.specs.Calls.{allFormed}
 use Rattle.split_calls.proofs.Cuts.{each-formed}
 use Rattle.split_calls.proofs.Fewest.{fewest-front}
 use Rattle.split_calls.proofs.Steps.{lowest-same, misses-small, fewest-small}
-use Rattle.split_rows.specs.Rows.{sizes, rooms, missesRow, together, entryOf, Rows, enterable, entered}
+use Rattle.split_rows.specs.Rows.{sizes, rooms, missesRow, together, entryOf, enteredRows}
 use Rattle.split_rows.proofs.Entering.{Fit, fit-passes}
 use Rattle.split.specs.Search.{Costs, Entries}
 
@@ -58,9 +58,9 @@ module _ (w : List ℕ) (g : wellFormed w ≡ true) (least low store : ℕ) (cos
   }
 
   -- so both rows are made
-  pub rows-made : entered w least low store costs table
+  pub rows-made : enteredRows w least low store costs table
       ≡ record { costs = putAt costs 0 (missesRow w); table = putAt table low (map (entryOf w least low (drop rooms table)) (from low (suc store - low))) }
-  unfolding entered
+  unfolding enteredRows
   rows-made = rw (fit-passes w least low store (length costs) (length table) fits)
 
   -- as long as all sizes

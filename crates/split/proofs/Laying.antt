@@ -1,6 +1,6 @@
 -- The table is laid: the others first, with what is left of words, least shares and rows, then the first customer before them.
-use mathlib.Core.Path.{_≡_, refl, sym, ap, _∙_}
-use Prim.Native.Nat.{ℕ, suc, _+_, _-_, _*_, _≤_, _<_}
+use mathlib.Core.Path.{_≡_, refl, _∙_}
+use Prim.Native.Nat.{ℕ, suc, _+_, _-_, _≤_, _<_}
 use native.Mathlib.Omega.{arith}
 use mathlib.Core.List.{List, [], _∷_}
 use mathlib.Core.Bool.{true}
@@ -13,10 +13,9 @@ use Rattle.reuse_rows.proofs.Slices.{part-rest}
 use Rattle.reuse_rows.proofs.Parts.{back-rest, back-length}
 use Rattle.split_calls.specs.Tables.{fewest}
 use Rattle.split_calls.specs.Cuts.{cutSummaries, ownWords}
-use Rattle.split_calls.specs.Calls.{allFormed}
-use Rattle.split_calls.proofs.Cuts.{cut-length, own-cut, own-formed, own-inside}
-use Rattle.split_rows.specs.Rows.{sizes, rooms, Rows, entered}
-use Rattle.split.specs.Search.{Entries, Tabled, Laying, Laid}
+use Rattle.split_calls.proofs.Cuts.{cut-length, own-cut, own-formed}
+use Rattle.split_rows.specs.Rows.{sizes, rooms, Rows, enteredRows}
+use Rattle.split.specs.Search.{Entries, Tabled, Laying, TableLaid}
 use Rattle.split.proofs.Entries.{Entering, rows-made, own-costs, all-entries, costs-past, table-past}
 
 -- the row of all customers is the table's first
@@ -31,7 +30,7 @@ unfolding sum
 first-share x ls = refl
 
 -- no customers: a blank row
-pub laid-none : (words leasts : List ℕ) (store : ℕ) (costs table : List ℕ) → Laying words leasts store costs table → length leasts ≡ 0 → Laid words leasts store 0 costs table
+pub laid-none : (words leasts : List ℕ) (store : ℕ) (costs table : List ℕ) → Laying words leasts store costs table → length leasts ≡ 0 → TableLaid words leasts store 0 costs table
 unfolding cutSummaries sum fewest
 laid-none words [] store costs table l e = record { in-all = refl; tabled = λ t a b. l .blank t }
 laid-none words (x ∷ ls) store costs table l e = absurd (omega arith)
@@ -64,7 +63,7 @@ module _ (words : List ℕ) (store : ℕ) (costs table : List ℕ) where
   module _ (costs₁ table₁ : List ℕ) (long : length costs₁ ≡ length costs - sizes) (long₁ : length table₁ ≡ length table - rooms) (others : ℕ) where
     -- the others' table, with a row before it
     abbrev with-others : (leasts : List ℕ) → Laying words leasts store costs table → 0 < length leasts
-        → Laid (drop (ownWords (length leasts) words) words) (drop 1 leasts) store others costs₁ table₁
+        → TableLaid (drop (ownWords (length leasts) words) words) (drop 1 leasts) store others costs₁ table₁
         → Entering (getD leasts 0 0) (getD leasts 0 0 + others) store (putMid sizes (length costs - sizes) costs costs₁) (putMid rooms (length table - rooms) table table₁)
     with-others [] l h d = absurd (omega arith)
     with-others (x ∷ ls) l h d = record {
@@ -82,9 +81,9 @@ module _ (words : List ℕ) (store : ℕ) (costs table : List ℕ) where
 
     -- and the table of all when the first customer's rows are made
     done : (leasts : List ℕ) (l : Laying words leasts store costs table) (h : 0 < length leasts)
-        → Laid (drop (ownWords (length leasts) words) words) (drop 1 leasts) store others costs₁ table₁ →
-        let rows : Rows = entered (take (ownWords (length leasts) words) words) (getD leasts 0 0) (getD leasts 0 0 + others) store (putMid sizes (length costs - sizes) costs costs₁) (putMid rooms (length table - rooms) table table₁) in
-        Laid words leasts store (getD leasts 0 0 + others) (rows .costs) (rows .table)
+        → TableLaid (drop (ownWords (length leasts) words) words) (drop 1 leasts) store others costs₁ table₁ →
+        let rows : Rows = enteredRows (take (ownWords (length leasts) words) words) (getD leasts 0 0) (getD leasts 0 0 + others) store (putMid sizes (length costs - sizes) costs costs₁) (putMid rooms (length table - rooms) table table₁) in
+        TableLaid words leasts store (getD leasts 0 0 + others) (rows .costs) (rows .table)
     done [] l h d = absurd (omega arith)
     done (x ∷ ls) l h d =
         let n : suc (length ls) - 1 ≡ length ls = omega arith in
@@ -103,9 +102,9 @@ module _ (words : List ℕ) (store : ℕ) (costs table : List ℕ) where
         }
 
     module _ (leasts : List ℕ) (l : Laying words leasts store costs table) (h : 0 < length leasts)
-        (d : Laid (midOf (ownWords (length leasts) words) (length words - ownWords (length leasts) words) words) (midOf 1 (length leasts - 1) leasts) store others costs₁ table₁) where
+        (d : TableLaid (midOf (ownWords (length leasts) words) (length words - ownWords (length leasts) words) words) (midOf 1 (length leasts - 1) leasts) store others costs₁ table₁) where
       -- the others are laid, by what was lent
-      laid-rest : Laid (drop (ownWords (length leasts) words) words) (drop 1 leasts) store others costs₁ table₁
+      laid-rest : TableLaid (drop (ownWords (length leasts) words) words) (drop 1 leasts) store others costs₁ table₁
       laid-rest = rw (part-rest words (ownWords (length leasts) words), part-rest leasts 1) at d
 
       -- with the first the least shares fit the store
@@ -114,6 +113,6 @@ module _ (words : List ℕ) (store : ℕ) (costs table : List ℕ) where
 
       -- and all are laid
       pub laid-done :
-          let rows : Rows = entered (take (ownWords (length leasts) words) words) (getD leasts 0 0) (getD leasts 0 0 + others) store (putMid sizes (length costs - sizes) costs costs₁) (putMid rooms (length table - rooms) table table₁) in
-          Laid words leasts store (getD leasts 0 0 + others) (rows .costs) (rows .table)
+          let rows : Rows = enteredRows (take (ownWords (length leasts) words) words) (getD leasts 0 0) (getD leasts 0 0 + others) store (putMid sizes (length costs - sizes) costs costs₁) (putMid rooms (length table - rooms) table table₁) in
+          TableLaid words leasts store (getD leasts 0 0 + others) (rows .costs) (rows .table)
       laid-done = done leasts l h laid-rest

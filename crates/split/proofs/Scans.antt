@@ -1,14 +1,11 @@
 -- How far a search for the first that passes has come.
-use mathlib.Core.Path.{_≡_, refl}
+use mathlib.Core.Path.{_≡_}
 use mathlib.Core.Logic.{_≢_}
 use Prim.Native.Nat.{ℕ, _+_, _-_, _≤_, _<_}
 use native.Mathlib.Omega.{arith}
-use mathlib.Core.List.{List}
 use lib.Dec.{eqb}
-use lib.ListN.{getD}
 use borrow.Author.Tests.{eqb-true, eqb-false}
 use Rattle.reuse.proofs.Lists.{by-test}
-use Rattle.split.specs.Search.{Scanned, withShare, Seeking, Sought}
 
 -- the values of f from `low` on are not v before t, and f `last` is
 pub record Passed (f : ℕ → ℕ) (v low last t : ℕ) : Type 0 where

@@ -1,13 +1,12 @@
 -- The search: blank rows can be laid, the room that is found is the smallest that reaches the misses, and the shares read off are the split.
-use mathlib.Core.Path.{_≡_, refl, sym, ap, _∙_}
-use Prim.Native.Nat.{ℕ, suc, _+_, _*_, _≤_, _<_}
+use mathlib.Core.Path.{_≡_, sym, ap, _∙_}
+use Prim.Native.Nat.{ℕ, suc, _+_, _*_, _≤_}
 use native.Mathlib.Omega.{arith}
 use mathlib.Core.List.{List, _++_}
 use lib.ListN.{length, drop, getD, replicate, length-replicate}
 use Rattle.reuse.specs.Limits.{maxCustomers}
 use Rattle.reuse.specs.Lists.{sum}
 use Rattle.reuse.proofs.Sums.{getD-blank-row}
-use Rattle.split_calls.specs.Split.{splitMisses, splitOf}
 use Rattle.split_calls.specs.Tables.{fewest, smallestTotal, chosen}
 use Rattle.split_calls.specs.Cuts.{cutSummaries}
 use Rattle.split_calls.proofs.Cuts.{cut-length}
@@ -15,10 +14,10 @@ use Rattle.split_calls.proofs.Fewest.{split-fewest}
 use Rattle.split_calls.proofs.Choice.{choice-split}
 use Rattle.split_calls.proofs.Steps.{total-is}
 use Rattle.split_rows.specs.Rows.{sizes, rooms}
-use Rattle.split.specs.Search.{Entries, Laying, Laid, Scanned, Chooses, Chosen, Searching, Searched}
+use Rattle.split.specs.Search.{Entries, Laying, TableLaid, Scanned, Chooses, Chosen, SplitReady, SplitFound}
 use Rattle.split.proofs.Laying.{tabled-entries}
 
-module _ (store : ℕ) (leasts words shares : List ℕ) (s : Searching store leasts words shares) where
+module _ (store : ℕ) (leasts words shares : List ℕ) (s : SplitReady store leasts words shares) where
   -- rows of zeros can be laid
   pub searching-laying : (n m : ℕ) → sizes * maxCustomers ≤ n → rooms * suc maxCustomers ≤ m → Laying words leasts store (replicate n 0) (replicate m 0)
   searching-laying n m h k = record {
@@ -31,7 +30,7 @@ module _ (store : ℕ) (leasts words shares : List ℕ) (s : Searching store lea
     blank = λ t. getD-blank-row m t;
   }
 
-  module _ (low : ℕ) (costs table : List ℕ) (d : Laid words leasts store low costs table) (total : ℕ) (t : Scanned table low store total) where
+  module _ (low : ℕ) (costs table : List ℕ) (d : TableLaid words leasts store low costs table) (total : ℕ) (t : Scanned table low store total) where
     -- the row of all customers
     entries : Entries (cutSummaries (length leasts) words) leasts store table
     entries = tabled-entries (cutSummaries (length leasts) words) leasts store costs table (d .tabled)
@@ -62,7 +61,7 @@ module _ (store : ℕ) (leasts words shares : List ℕ) (s : Searching store lea
 
     -- and are the split
     pub searched : sizes * maxCustomers ≤ length costs → rooms * suc maxCustomers ≤ length table → (shares′ : List ℕ) → Chosen leasts total costs table shares shares′
-        → Searched store leasts words shares (getD table store 0) shares′
+        → SplitFound store leasts words shares (getD table store 0) shares′
     searched h k shares′ c =
         let w = cutSummaries (length leasts) words in
         record {

@@ -45,7 +45,7 @@ pub record Laying (words leasts : List ℕ) (store : ℕ) (costs table : List �
   pub blank : (t : ℕ) → getD table t 0 ≡ 0
 
 -- their least shares in all, and their table
-pub record Laid (words leasts : List ℕ) (store r : ℕ) (costs table : List ℕ) : Type 0 where
+pub record TableLaid (words leasts : List ℕ) (store r : ℕ) (costs table : List ℕ) : Type 0 where
   pub in-all : r ≡ sum leasts
   pub tabled : Tabled (cutSummaries (length leasts) words) leasts store costs table
 
@@ -106,7 +106,7 @@ Chosen leasts left costs table shares shares′ =
     → shares′ ≡ chosen summaries leasts left ++ drop (length leasts) shares
 
 -- a split that is not refused
-pub record Searching (store : ℕ) (leasts words shares : List ℕ) : Type 0 where
+pub record SplitReady (store : ℕ) (leasts words shares : List ℕ) : Type 0 where
   pub formed : allFormed (cutSummaries (length leasts) words) ≡ true
   pub few : length leasts ≤ maxCustomers
   pub fits : sum leasts ≤ store
@@ -114,6 +114,6 @@ pub record Searching (store : ℕ) (leasts words shares : List ℕ) : Type 0 whe
   pub room : length leasts ≤ length shares
 
 -- the split found
-pub record Searched (store : ℕ) (leasts words shares : List ℕ) (r : ℕ) (shares′ : List ℕ) : Type 0 where
+pub record SplitFound (store : ℕ) (leasts words shares : List ℕ) (r : ℕ) (shares′ : List ℕ) : Type 0 where
   pub misses : r ≡ splitMisses (cutSummaries (length leasts) words) (splitOf (cutSummaries (length leasts) words) leasts store)
   pub found : shares′ ≡ splitOf (cutSummaries (length leasts) words) leasts store ++ drop (length leasts) shares

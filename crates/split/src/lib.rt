@@ -2,9 +2,9 @@
 // first share, the second, and so on.
 mod search;
 
-pub use split_calls::SplitAnswer;
 use reuse::MAX_CUSTOMERS;
 use reuse::MAX_STORE;
+pub use split_calls::SplitAnswer;
 ghost use mathlib.Core.Path.{_≡_};
 ghost use Rattle.split_calls.specs.Calls.{splitCall};
 

@@ -2,7 +2,7 @@
 // first customer on.
 ghost use mathlib.Core.Path.{_≡_};
 ghost use Rattle.split_calls.specs.Cuts.{ownWords};
-ghost use Rattle.split.specs.Search.{Cuttable, Laying, Laid, Scanning, Scanned, Seeking, Sought, Choosing, Chosen, Searching, Searched};
+ghost use Rattle.split.specs.Search.{Cuttable, Laying, TableLaid, Scanning, Scanned, Seeking, Sought, Choosing, Chosen, SplitReady, SplitFound};
 use reuse::MAX_CUSTOMERS;
 use reuse::MAX_EXTENTS;
 use split_rows::ROOMS;
@@ -28,13 +28,19 @@ fn own_words(words: &[u32], customers: usize) -> usize
 // The table of these customers, laid into a blank one from the last of them back: their least shares in all.
 fn lay(words: &[u32], leasts: &[u32], store: usize, costs: &mut [u32], table: &mut [u32]) -> usize
     requires { ⌜ Laying (now words) (now leasts) store (now costs) (now table) ⌝ }
-    ensures { λ r. ⌜ Laid (now (words .entry)) (now (leasts .entry)) store r (now (costs .exit)) (now (table .exit)) ⌝ }
+    ensures { λ r. ⌜ TableLaid (now (words .entry)) (now (leasts .entry)) store r (now (costs .exit)) (now (table .exit)) ⌝ }
 {
     if leasts.len() == 0 {
         return 0;
     }
     let own = own_words(words, leasts.len());
-    let others = lay(&words[own..], &leasts[1..], store, &mut costs[SIZES..], &mut table[ROOMS..]);
+    let others = lay(
+        &words[own..],
+        &leasts[1..],
+        store,
+        &mut costs[SIZES..],
+        &mut table[ROOMS..],
+    );
     let least = leasts[0] as usize;
     let low = least + others;
     split_rows::enter(&words[..own], least, low, store, costs, table);
@@ -78,13 +84,19 @@ fn choose(leasts: &[u32], left: usize, costs: &[u32], table: &[u32], shares: &mu
     let least = leasts[0] as usize;
     let share = share_at(costs, &table[ROOMS..], table[left], least, left);
     shares[0] = share as u32;
-    choose(&leasts[1..], left - share, &costs[SIZES..], &table[ROOMS..], &mut shares[1..]);
+    choose(
+        &leasts[1..],
+        left - share,
+        &costs[SIZES..],
+        &table[ROOMS..],
+        &mut shares[1..],
+    );
 }
 
 // The misses in all of the best shares, which are put at the front of `shares`.
 pub fn search(store: usize, leasts: &[u32], words: &[u32], shares: &mut [u32]) -> u32
-    requires { ⌜ Searching store (now leasts) (now words) (now shares) ⌝ }
-    ensures { λ r. ⌜ Searched store (now (leasts .entry)) (now (words .entry)) (now (shares .entry)) r (now (shares .exit)) ⌝ }
+    requires { ⌜ SplitReady store (now leasts) (now words) (now shares) ⌝ }
+    ensures { λ r. ⌜ SplitFound store (now (leasts .entry)) (now (words .entry)) (now (shares .entry)) r (now (shares .exit)) ⌝ }
 {
     let mut costs = [0u32; COSTS];
     let mut table = [0u32; TABLE];

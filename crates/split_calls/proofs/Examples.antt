@@ -6,9 +6,9 @@ use Rattle.reuse.specs.Lists.{from, sum, count, firsts, cleanup, remove, mem, d
 use Rattle.reuse.specs.Lru.{reuses, depth, touch, countAt}
 use Rattle.reuse.specs.Summary.{words, histogram, summaryOf, readsOf, extentsOf, firstOf, recentOf, countsOf, wellFormed, missesOf}
 use Rattle.split_calls.specs.Split.{shareLists, splitMisses, better, bestAfter, bestOf, splitOf}
-use Rattle.split_calls.specs.Stepwise.{oneMore, handedOut}
+use Rattle.split_calls.specs.Stepwise.{withOneMore, handedOut}
 use Rattle.split_calls.specs.Cuts.{cutSummaries}
-use Rattle.split_calls.specs.Calls.{Divided, divided, allFormed, splitCall}
+use Rattle.split_calls.specs.Calls.{divided, allFormed, splitCall}
 use Rattle.split_calls.specs.declared.SplitAnswer.the-variants.{Misses, Refused}
 use Rattle.split_calls.specs.Tables.{lowest, fewest, firstFrom, smallestTotal, smallestShare, chosen}
 
@@ -23,7 +23,7 @@ uneven-split = (refl, refl)
 
 -- one extent at a time goes to the first customer, the only one with fewer misses for it, and ends with 5 misses
 pub uneven-stepwise : (handedOut uneven (0 ∷ 0 ∷ []) 1 ≡ 1 ∷ 0 ∷ []) × (splitMisses uneven (handedOut uneven (0 ∷ 0 ∷ []) 2) ≡ 5)
-unfolding handedOut oneMore bestOf bestAfter better splitMisses sum missesOf extentsOf countsOf summaryOf words histogram firsts cleanup mem countAt count reuses depth touch remove from
+unfolding handedOut withOneMore bestOf bestAfter better splitMisses sum missesOf extentsOf countsOf summaryOf words histogram firsts cleanup mem countAt count reuses depth touch remove from
 uneven-stepwise = (refl, refl)
 
 -- wherever the second extent goes then: none of the two ways has 4

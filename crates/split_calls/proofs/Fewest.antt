@@ -1,16 +1,14 @@
 -- The table of fewest misses: its entries are the least over the shares that may be given, it never rises, and shares above v need not be tried.
-use mathlib.Core.Path.{_≡_, refl, sym, ap, _∙_}
+use mathlib.Core.Path.{_≡_, refl}
 use Prim.Native.Nat.{ℕ, zero, suc, _+_, _-_, _*_, _≤_, _<_, min}
 use native.Mathlib.Omega.{arith}
 use mathlib.Core.List.{List, [], _∷_}
 use lib.Dec.{leb}
 use lib.ListN.{take, drop, length-take, drop-of-length-le}
-use lib.Seq.{drop-drop}
 use borrow.Author.Tests.{leb-true, leb-false}
 use Rattle.reuse.specs.Lists.{sum}
 use Rattle.reuse.specs.Summary.{extentsOf, countsOf, missesOf}
 use Rattle.reuse.proofs.Lists.{by-test}
-use Rattle.reuse.proofs.Sums.{sum-drop-le}
 use Rattle.split_calls.specs.Split.{Allowed, Best, splitMisses, splitOf}
 use Rattle.split_calls.specs.Tables.{lowest, fewest}
 use Rattle.split_calls.proofs.Order.{by-order}
@@ -106,14 +104,6 @@ pub misses-past : (w : List ℕ) (share : ℕ) → extentsOf w ≤ share → mis
 unfolding missesOf countsOf sum
 misses-past w share h =
     rw (drop-of-length-le (take (extentsOf w) (drop (2 + 2 * extentsOf w) w)) {i = share} (simp length-take (omega arith))) (omega arith)
-
--- a larger share never misses more
-pub misses-fall : (w : List ℕ) (share more : ℕ) → share ≤ more → missesOf w more ≤ missesOf w share
-unfolding missesOf
-misses-fall w share more h =
-    let e : share + (more - share) ≡ more = omega arith in
-    let d : drop more (countsOf w) ≡ drop (more - share) (drop share (countsOf w)) = sym (drop-drop (more - share) share (countsOf w) ∙ ap (λ (n : ℕ). drop n (countsOf w)) e) in
-    rw d (omega (arith, sum-drop-le (more - share) (drop share (countsOf w))))
 
 -- so no share above v and the least one need be tried
 pub fewest-front : (w : List ℕ) (summaries : List (List ℕ)) (least : ℕ) (leasts : List ℕ) (room : ℕ) → sum (least ∷ leasts) ≤ room

@@ -1,6 +1,6 @@
 -- Each refusal is given exactly under its condition, in order, and leaves the shares.
-use mathlib.Core.Path.{_≡_, refl, sym, ap, _∙_}
-use mathlib.Core.Logic.{_⊎_, inl, inr, _↔_, _≢_}
+use mathlib.Core.Path.{_≡_, refl, ap}
+use mathlib.Core.Logic.{_⊎_, inl, inr, _↔_}
 use Prim.Native.Nat.{ℕ, _≤_, _<_}
 use native.Mathlib.Omega.{arith}
 use mathlib.Core.List.{List, [], _∷_, List·Memᴰ, List·Memᴰ·head, List·Memᴰ·tail}
@@ -14,7 +14,7 @@ use Rattle.reuse.specs.Summary.{wellFormed}
 use Rattle.reuse.proofs.Lists.{by-test, clash}
 use Rattle.split_calls.specs.Cuts.{cutSummaries}
 use Rattle.split_calls.specs.Calls.{Divided, turnedAway, divided, customersFit, allFormed, splitCall}
-use Rattle.split_calls.specs.Refusals.{refusalOf, Outside, SomeBad, Refusals}
+use Rattle.split_calls.specs.Refusals.{splitRefusal, Outside, SomeBad, Refusals}
 use Rattle.split_calls.proofs.Members.{either}
 use Rattle.split_calls.proofs.Cuts.{each-formed}
 use Rattle.split_calls.proofs.Calls.{customers-fit, customers-none, customers-many, call-store, call-customers, call-summary, call-least, call-room, call-split}
@@ -78,11 +78,11 @@ module _ (store : ℕ) (leasts words shares : List ℕ) where
 
   -- the number given
   abbrev r : ℕ
-  r = refusalOf (splitCall store leasts words shares .answer)
+  r = splitRefusal (splitCall store leasts words shares .answer)
 
   -- by what the call leaves
-  told : {d : Divided} → splitCall store leasts words shares ≡ d → r ≡ refusalOf (d .answer)
-  told e = ap (λ (d : Divided). refusalOf (d .answer)) e
+  told : {d : Divided} → splitCall store leasts words shares ≡ d → r ≡ splitRefusal (d .answer)
+  told e = ap (λ (d : Divided). splitRefusal (d .answer)) e
 
   -- the numbers are in order
   in-order : (Outside store leasts → ⊥) → (store ≤ maxStore) × (1 ≤ length leasts) × (length leasts ≤ maxCustomers)

@@ -1,12 +1,11 @@
 -- The table and the choice, step by step, as loops over words make them.
 use mathlib.Core.Path.{_≡_, refl, sym, ap, _∙_}
-use Prim.Native.Nat.{ℕ, zero, suc, _+_, _-_, _*_, _≤_, _<_, min}
+use Prim.Native.Nat.{ℕ, zero, suc, _+_, _-_, _*_, _≤_, _<_, min, max}
 use native.Mathlib.Omega.{arith}
 use mathlib.Core.Logic.{_≢_}
 use mathlib.Core.List.{List, [], _∷_, List·Memᴰ, List·Memᴰ·head, List·Memᴰ·tail}
 use mathlib.Core.Bool.{true}
-use lib.ListN.{length, drop, getD}
-use lib.Seq.{drop-cons, drop-length}
+use lib.ListN.{length, getD}
 use borrow.Author.Tests.{eqb-true}
 use Rattle.reuse.specs.Limits.{maxReads}
 use Rattle.reuse.specs.Lists.{sum}
@@ -14,10 +13,11 @@ use Rattle.reuse.specs.Summary.{extentsOf, countsOf, wellFormed, missesOf}
 use Rattle.reuse.proofs.Sums.{sum-drop}
 use Rattle.reuse.proofs.Formed.{Formed, formed}
 use Rattle.reuse.proofs.Misses.{hits-misses}
-use Rattle.split_calls.specs.Tables.{lowest, fewest, fewestFrom, smallestTotal, smallestShare, chosen}
+use Rattle.split_calls.specs.Split.{splitOf}
+use Rattle.split_calls.specs.Tables.{lowest, fewest, smallestTotal, smallestShare, chosen}
 use Rattle.split_calls.proofs.Order.{by-order}
 use Rattle.split_calls.proofs.Fewest.{lowest-le, lowest-at, fewest-front}
-use Rattle.split_calls.proofs.Choice.{share-first, total-first}
+use Rattle.split_calls.proofs.Choice.{share-first, share-reaches, total-first, total-reaches, choice-split}
 
 -- a run one longer
 pub lowest-snoc : (f : ℕ → ℕ) (k n : ℕ) → lowest f k (suc n) ≡ min (lowest f k n) (f (k + suc n))
@@ -41,32 +41,6 @@ pub misses-step : (w : List ℕ) (share : ℕ) → missesOf w share ≡ getD (co
 unfolding missesOf
 misses-step w share = omega (arith, sum-drop share (countsOf w))
 
--- no customer is left: no misses
-pub fewest-end : (summaries : List (List ℕ)) (leasts : List ℕ) (room : ℕ) → fewestFrom summaries leasts (length leasts) room ≡ 0
-unfolding fewestFrom
-fewest-end summaries leasts room = rw (drop-length leasts) (none (drop (length leasts) summaries))
-  where
-    none : (ws : List (List ℕ)) → fewest ws [] room ≡ 0
-    none [] = unfold fewest in refl
-    none (w ∷ ws) = unfold fewest in refl
-
--- the entries of customer k from those of the next, over the shares from the least up to v and to what is left over
-pub fewest-step : (summaries : List (List ℕ)) (leasts : List ℕ) (k room : ℕ) → k < length summaries → k < length leasts → sum (drop k leasts) ≤ room
-    → fewestFrom summaries leasts k room
-    ≡ lowest (λ share. missesOf (getD summaries k []) share + fewestFrom summaries leasts (suc k) (room - share)) (getD leasts k 0)
-    (min (room - sum (drop k leasts)) (extentsOf (getD summaries k []) - getD leasts k 0))
-unfolding fewestFrom
-fewest-step summaries leasts k room h g f =
-    rw (drop-cons summaries k [] h, drop-cons leasts k 0 g)
-    (fewest-front (getD summaries k []) (drop (suc k) summaries) (getD leasts k 0) (drop (suc k) leasts) room (rw (drop-cons leasts k 0 g) at f))
-
--- the choice of customer k, and those after it
-pub chosen-step : (summaries : List (List ℕ)) (leasts : List ℕ) (k room : ℕ) → k < length summaries → k < length leasts
-    → let share : ℕ = smallestShare (getD summaries k []) (drop (suc k) summaries) (getD leasts k 0) (drop (suc k) leasts) room in
-    chosen (drop k summaries) (drop k leasts) room ≡ share ∷ chosen (drop (suc k) summaries) (drop (suc k) leasts) (room - share)
-unfolding chosen
-chosen-step summaries leasts k room h g = rw (drop-cons summaries k [] h, drop-cons leasts k 0 g)
-
 -- the first customer's share
 module _ (w : List ℕ) (ws : List (List ℕ)) (l : ℕ) (ls : List ℕ) (room : ℕ) where
   -- it is s where s reaches the fewest misses and no smaller share does
@@ -83,6 +57,24 @@ module _ (w : List ℕ) (ws : List (List ℕ)) (l : ℕ) (ls : List ℕ) (room :
       let (s, r) = lowest-at (λ share. missesOf w share + fewest ws ls (room - share)) l (min (room - sum (l ∷ ls)) (extentsOf w - l)) in
       let q = share-first w ws l ls room s (r .low) (omega (arith, r .high)) (r .least ∙ sym (fewest-front w ws l ls room h)) in
       omega (arith, q .least, r .high)
+
+-- so of every customer
+chosen-small : (summaries : List (List ℕ)) (leasts : List ℕ) (room : ℕ) → sum leasts ≤ room → (i : ℕ)
+    → getD (chosen summaries leasts room) i 0 ≤ max (getD leasts i 0) (extentsOf (getD summaries i []))
+unfolding chosen
+chosen-small [] ls room h i = omega arith
+chosen-small (w ∷ ws) [] room h i = omega arith
+chosen-small (w ∷ ws) (l ∷ ls) room h zero = omega (arith, share-small w ws l ls room h)
+chosen-small (w ∷ ws) (l ∷ ls) room h (suc i) =
+    let (a, b, e) = share-reaches w ws l ls room h in
+    chosen-small ws ls (room - smallestShare w ws l ls room) (omega arith) i
+
+-- and of the split
+pub split-small : (summaries : List (List ℕ)) (leasts : List ℕ) (room : ℕ) → sum leasts ≤ room → (i : ℕ)
+    → getD (splitOf summaries leasts room) i 0 ≤ max (getD leasts i 0) (extentsOf (getD summaries i []))
+split-small summaries leasts room h i =
+    rw (← choice-split summaries leasts room h)
+    (chosen-small summaries leasts (smallestTotal summaries leasts room) (total-reaches summaries leasts room h .0) i)
 
 -- the total is t where the misses are as few in t and in no smaller room
 pub total-is : (summaries : List (List ℕ)) (leasts : List ℕ) (room t : ℕ) → sum leasts ≤ t → t ≤ room → fewest summaries leasts t ≡ fewest summaries leasts room

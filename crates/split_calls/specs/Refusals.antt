@@ -14,9 +14,9 @@ use Rattle.split_calls.specs.declared.SplitAnswer.{SplitAnswer}
 use Rattle.split_calls.specs.declared.SplitAnswer.the-variants.{Misses, Refused}
 
 -- the refusal's number, 0 where there is none
-abbrev pub refusalOf : SplitAnswer → ℕ
-refusalOf (Misses n) = 0
-refusalOf (Refused n) = n
+abbrev pub splitRefusal : SplitAnswer → ℕ
+splitRefusal (Misses n) = 0
+splitRefusal (Refused n) = n
 
 -- a store above the largest, or a number of customers that is not from 1 to the most
 abbrev pub Outside : ℕ → List ℕ → Type 0
@@ -29,14 +29,14 @@ SomeBad summaries = (w : List ℕ) × List·Memᴰ w summaries × (wellFormed w 
 -- of every call
 pub record Refusals (store : ℕ) (leasts words shares : List ℕ) : Type 0 where
   -- 2: the store or the number of customers
-  pub two : refusalOf (splitCall store leasts words shares .answer) ≡ 2 ↔ Outside store leasts
+  pub two : splitRefusal (splitCall store leasts words shares .answer) ≡ 2 ↔ Outside store leasts
   -- 5: a bad summary, the numbers being in order
-  pub five : refusalOf (splitCall store leasts words shares .answer) ≡ 5 ↔ ((Outside store leasts → ⊥) × SomeBad (cutSummaries (length leasts) words))
+  pub five : splitRefusal (splitCall store leasts words shares .answer) ≡ 5 ↔ ((Outside store leasts → ⊥) × SomeBad (cutSummaries (length leasts) words))
   -- 10: looked at after those, the least shares add up to more than the store
-  pub ten : refusalOf (splitCall store leasts words shares .answer) ≡ 10
+  pub ten : splitRefusal (splitCall store leasts words shares .answer) ≡ 10
       ↔ ((Outside store leasts → ⊥) × (SomeBad (cutSummaries (length leasts) words) → ⊥) × (store < sum leasts))
   -- 6: last, fewer words for the shares than customers
-  pub six : refusalOf (splitCall store leasts words shares .answer) ≡ 6
+  pub six : splitRefusal (splitCall store leasts words shares .answer) ≡ 6
       ↔ ((Outside store leasts → ⊥) × (SomeBad (cutSummaries (length leasts) words) → ⊥) × (sum leasts ≤ store) × (length shares < length leasts))
   -- a refusal leaves every lent word
-  pub kept : refusalOf (splitCall store leasts words shares .answer) ≢ 0 → splitCall store leasts words shares .shares ≡ shares
+  pub kept : splitRefusal (splitCall store leasts words shares .answer) ≢ 0 → splitCall store leasts words shares .shares ≡ shares

@@ -3,7 +3,6 @@ use Prim.Native.Nat.{ℕ, zero, suc, _+_, _-_, min}
 use mathlib.Core.List.{List, [], _∷_}
 use mathlib.Core.Bool.{Bool, cond}
 use lib.Dec.{eqb}
-use lib.ListN.{drop}
 use Rattle.reuse.specs.Lists.{sum}
 use Rattle.reuse.specs.Summary.{missesOf}
 
@@ -19,10 +18,6 @@ fewest [] leasts room = 0
 fewest (summary ∷ summaries) [] room = 0
 fewest (summary ∷ summaries) (least ∷ leasts) room =
     lowest (λ share. missesOf summary share + fewest summaries leasts (room - share)) least (room - sum (least ∷ leasts))
-
--- the table's entry for customer k, counted from 0, and a room: the fewest misses of the customers from k on
-unfoldable pub fewestFrom : List (List ℕ) → List ℕ → ℕ → ℕ → ℕ
-fewestFrom summaries leasts k room = fewest (drop k summaries) (drop k leasts) room
 
 -- the first of k, k + 1, and so on that passes a test; k + n where none before it does
 unfoldable pub firstFrom : (ℕ → Bool) → ℕ → ℕ → ℕ

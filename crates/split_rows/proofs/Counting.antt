@@ -1,5 +1,5 @@
 -- How far the row of a customer's misses has come, from the largest size down.
-use mathlib.Core.Path.{_≡_, refl, sym, ap, _∙_}
+use mathlib.Core.Path.{_≡_, sym, ap, _∙_}
 use mathlib.Core.Logic.{_≢_}
 use Prim.Native.Nat.{ℕ, suc, _+_, _-_, _*_, _≤_, _<_, _%_, _^_}
 use native.Mathlib.Omega.{arith}

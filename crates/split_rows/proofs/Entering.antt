@@ -1,12 +1,12 @@
 -- One customer more before the others: what fits lets the table's first row be filled, and filled it has the entries of the definition.
-use mathlib.Core.Path.{_≡_, refl, sym, ap, _∙_, fun-ext}
+use mathlib.Core.Path.{_≡_, sym, ap, _∙_, fun-ext}
 use Prim.Native.Nat.{ℕ, suc, _+_, _-_, _*_, _≤_, _<_, _%_, _^_, min}
 use native.Mathlib.Omega.{arith}
 use native.Mathlib.Nat.{zero-add}
 use mathlib.Core.List.{List, map}
-use mathlib.Core.Bool.{Bool, true, false, _&&_}
+use mathlib.Core.Bool.{true, false}
 use lib.Dec.{leb}
-use lib.ListN.{length, take, drop, getD, length-take, length-drop, length-map}
+use lib.ListN.{length, drop, getD, length-take, length-drop, length-map}
 use lib.Seq.{getD-take, getD-drop}
 use borrow.Author.Tests.{leb-true, leb-false, le-leb}
 use borrow.Rule.Slice.PartMut.{midOf}
@@ -19,8 +19,8 @@ use Rattle.reuse_rows.specs.Rows.{putAt}
 use Rattle.split_calls.specs.Tables.{lowest}
 use Rattle.split_calls.proofs.Fewest.{misses-past}
 use Rattle.split_calls.proofs.Steps.{lowest-same}
-use Rattle.split_rows.specs.Rows.{sizes, rooms, missesRow, together, entryOf, Rows, enterable, entered}
-use Rattle.split_rows.specs.Steps.{Whole, pairSum, Fillable, entryBy, filled}
+use Rattle.split_rows.specs.Rows.{sizes, rooms, missesRow, together, entryOf, enterable, enteredRows}
+use Rattle.split_rows.specs.Steps.{pairSum, Fillable, entryBy, filledRow}
 use Rattle.split_rows.proofs.Counting.{word-add}
 
 -- what fits, by its facts
@@ -82,8 +82,8 @@ fit-last w least low store costs table h =
 
 -- what does not fit leaves the rows as they were
 pub entered-not : (w : List ℕ) (least low store : ℕ) (costs table : List ℕ) → enterable w least low store (length costs) (length table) ≡ false
-    → entered w least low store costs table ≡ record { costs = costs; table = table }
-unfolding entered
+    → enteredRows w least low store costs table ≡ record { costs = costs; table = table }
+unfolding enteredRows
 entered-not w least low store costs table h = rw h
 
 -- a place of both of two runs is one of the first, and of the second
@@ -95,10 +95,6 @@ left-over : (t least i : ℕ) → t - least - i ≡ t - (least + i)
 left-over t least i = omega arith
 
 module _ (w : List ℕ) (least low store : ℕ) (costs table : List ℕ) (f : Fit w least low store (length costs) (length table)) (base : ℕ) (b : base ≡ min least (getD w 1 0)) where
-  -- the words of v
-  pub fit-whole : Whole w
-  fit-whole = record { few = f .few; long = f .long }
-
   -- as many extents past the least share save misses
   span-is : getD w 1 0 - base ≡ getD w 1 0 - least
   span-is = omega arith
@@ -147,9 +143,9 @@ module _ (w : List ℕ) (least low store : ℕ) (costs table : List ℕ) (f : Fi
       ∙ ap (λ (n : ℕ). lowest (together w (drop rooms table) t) least (min (t - low) n)) span-is
 
   -- both rows are made
-  pub fit-entered : entered w least low store costs table
-      ≡ record { costs = putAt costs 0 (missesRow w); table = filled (midOf base (sizes - base) (missesRow w)) (getD w 1 0 - base) least low store table }
-  unfolding entered
+  pub fit-entered : enteredRows w least low store costs table
+      ≡ record { costs = putAt costs 0 (missesRow w); table = filledRow (midOf base (sizes - base) (missesRow w)) (getD w 1 0 - base) least low store table }
+  unfolding enteredRows
   fit-entered =
       rw (fit-passes w least low store (length costs) (length table) f)
       (ap (λ (e : ℕ → ℕ). record { costs = putAt costs 0 (missesRow w); table = putAt table low (map e (from low (suc store - low))) }) (fun-ext (λ t. sym (entry-is t))))

@@ -12,7 +12,7 @@ use Rattle.reuse_rows.specs.Rows.{putAt}
 use Rattle.reuse_rows.proofs.Slices.{part-rest}
 use Rattle.split_calls.specs.Tables.{lowest}
 use Rattle.split_rows.specs.Rows.{rooms}
-use Rattle.split_rows.specs.Steps.{pairSum, Tries, Fillable, entryBy, filled}
+use Rattle.split_rows.specs.Steps.{pairSum, Tries, Fillable, entryBy, filledRow}
 
 -- the rooms before t have their entries, and the others are as they were
 pub record Filling (own : List ℕ) (span least low store : ℕ) (table₀ table : List ℕ) (t : ℕ) : Type 0 where
@@ -89,7 +89,7 @@ module _ (own : List ℕ) (span least low store : ℕ) (table₀ : List ℕ) (f 
         }
 
   -- all rooms
-  pub filling-end : (table : List ℕ) (t : ℕ) → Filling own span least low store table₀ table t → store < t → table ≡ filled own span least low store table₀
+  pub filling-end : (table : List ℕ) (t : ℕ) → Filling own span least low store table₀ table t → store < t → table ≡ filledRow own span least low store table₀
   unfolding putAt
   filling-end table t i h =
       let s : t ≡ suc store = omega (arith, i .near) in

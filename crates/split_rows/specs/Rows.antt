@@ -48,8 +48,8 @@ enterable w least low store costs table =
 
 -- one customer more before the others: its misses are put before theirs, and before their row of the table one of it and
 -- them, in the rooms from `low` to the store; nothing where it does not fit
-unfoldable pub entered : List ℕ → ℕ → ℕ → ℕ → List ℕ → List ℕ → Rows
-entered w least low store costs table =
+unfoldable pub enteredRows : List ℕ → ℕ → ℕ → ℕ → List ℕ → List ℕ → Rows
+enteredRows w least low store costs table =
     cond (enterable w least low store (length costs) (length table))
     (record {
       costs = putAt costs 0 (missesRow w);

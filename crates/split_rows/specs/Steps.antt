@@ -1,6 +1,5 @@
 -- What the steps of entering one customer stand on, and what they leave.
 use Prim.Native.Nat.{ℕ, suc, _+_, _-_, _*_, _≤_, _<_, _%_, _^_, min}
-use mathlib.Core.Path.{_≡_}
 use mathlib.Core.List.{List, map}
 use lib.ListN.{length, drop, getD}
 use Rattle.reuse.specs.Limits.{maxExtents, maxStore}
@@ -37,5 +36,5 @@ abbrev pub entryBy : List ℕ → ℕ → ℕ → ℕ → List ℕ → ℕ → �
 entryBy own span least low others room = lowest (pairSum own others (room - least)) 0 (min (room - low) span)
 
 -- the first row made in the rooms from `low` to the store
-abbrev pub filled : List ℕ → ℕ → ℕ → ℕ → ℕ → List ℕ → List ℕ
-filled own span least low store table = putAt table low (map (entryBy own span least low (drop rooms table)) (from low (suc store - low)))
+abbrev pub filledRow : List ℕ → ℕ → ℕ → ℕ → ℕ → List ℕ → List ℕ
+filledRow own span least low store table = putAt table low (map (entryBy own span least low (drop rooms table)) (from low (suc store - low)))

@@ -3,8 +3,8 @@ ghost use mathlib.Core.Path.{_≡_};
 ghost use Prim.Native.Nat.{min};
 ghost use lib.ListN.{length};
 ghost use Rattle.split_calls.specs.Tables.{lowest};
-ghost use Rattle.split_rows.specs.Rows.{missesRow, enterable, entered};
-ghost use Rattle.split_rows.specs.Steps.{Whole, pairSum, Tries, Fillable, filled};
+ghost use Rattle.split_rows.specs.Rows.{missesRow, enterable, enteredRows};
+ghost use Rattle.split_rows.specs.Steps.{Whole, pairSum, Tries, Fillable, filledRow};
 use reuse::MAX_EXTENTS;
 use reuse::MAX_STORE;
 
@@ -61,7 +61,7 @@ fn least_sum(own: &[u32], others: &[u32], left: usize, tries: usize) -> u32
 // others with i extents past its least share, and no more than `span` of them save any.
 fn fill(own: &[u32], span: usize, least: usize, low: usize, store: usize, table: &mut [u32])
     requires { ⌜ Fillable (now own) span least low store (now table) ⌝ }
-    ensures { λ _. ⌜ now (table .exit) ≡ filled (now (own .entry)) span least low store (now (table .entry)) ⌝ }
+    ensures { λ _. ⌜ now (table .exit) ≡ filledRow (now (own .entry)) span least low store (now (table .entry)) ⌝ }
 {
     let mut t = low;
     while t <= store {
@@ -101,9 +101,16 @@ fn fits(words: &[u32], least: usize, low: usize, store: usize, costs: usize, tab
 }
 
 // One customer more before the others: its misses at the front of `costs`, and the row of it and them at the front of the table.
-pub fn enter(words: &[u32], least: usize, low: usize, store: usize, costs: &mut [u32], table: &mut [u32])
-    ensures costs { λ _. ⌜ now (costs .exit) ≡ entered (now (words .entry)) least low store (now (costs .entry)) (now (table .entry)) .costs ⌝ }
-    ensures table { λ _. ⌜ now (table .exit) ≡ entered (now (words .entry)) least low store (now (costs .entry)) (now (table .entry)) .table ⌝ }
+pub fn enter(
+    words: &[u32],
+    least: usize,
+    low: usize,
+    store: usize,
+    costs: &mut [u32],
+    table: &mut [u32],
+)
+    ensures costs { λ _. ⌜ now (costs .exit) ≡ enteredRows (now (words .entry)) least low store (now (costs .entry)) (now (table .entry)) .costs ⌝ }
+    ensures table { λ _. ⌜ now (table .exit) ≡ enteredRows (now (words .entry)) least low store (now (costs .entry)) (now (table .entry)) .table ⌝ }
 {
     if !fits(words, least, low, store, costs.len(), table.len()) {
         return;

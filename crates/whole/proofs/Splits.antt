@@ -1,27 +1,35 @@
 -- The split of a store among logs: the caches' misses, and none better.
-use Prim.Native.Nat.{ℕ, _≤_, _<_}
+use Prim.Native.Nat.{ℕ, zero, suc, _≤_}
 use native.Mathlib.Omega.{arith}
 use mathlib.Core.Path.{_≡_, refl, sym, ap, _∙_}
-use mathlib.Core.Logic.{_⊎_, inl, inr}
-use mathlib.Core.Bool.{true, false}
-use mathlib.Core.List.{List, _∷_, _++_, map, flatten, List·Memᴰ}
-use lib.ListN.{length, drop, length-map}
-use Rattle.reuse.specs.Lists.{sum}
-use Rattle.reuse.specs.Summary.{summaryOf, wellFormed}
+use mathlib.Core.Logic.{inl, inr}
+use mathlib.Core.Bool.{true}
+use mathlib.Core.List.{List, _∷_, [], _++_, map, flatten, List·Memᴰ}
+use lib.ListN.{length, drop, getD, length-map}
+use Rattle.reuse.specs.Lists.{sum, firsts}
+use Rattle.reuse.specs.Summary.{summaryOf, extentsOf, wellFormed}
 use Rattle.reuse.specs.Traces.{Within}
 use Rattle.reuse.proofs.Lists.{clash}
+use Rattle.reuse.proofs.Words.{extents-summary}
 use Rattle.reuse.proofs.Formed.{summary-well-formed}
 use Rattle.split_calls.specs.declared.SplitAnswer.the-variants.{Misses}
-use Rattle.split_calls.specs.Split.{Allowed, Best, cachedMisses, splitMisses, splitOf, notAfter, rank}
+use Rattle.split_calls.specs.Split.{Best, splitOf, rank}
 use Rattle.split_calls.specs.Cuts.{cutSummaries}
-use Rattle.split_calls.specs.Calls.{Divided, allFormed, divided, splitCall}
+use Rattle.split_calls.specs.Calls.{allFormed, divided}
 use Rattle.split_calls.specs.Refusals.{Outside, SomeBad}
-use Rattle.split_calls.proofs.Members.{either, map-mem}
+use Rattle.split_calls.proofs.Members.{map-mem}
 use Rattle.split_calls.proofs.Cuts.{cut-joined, formed-each, each-formed}
 use Rattle.split_calls.proofs.Best.{split-best, split-caches}
+use Rattle.split_calls.proofs.Steps.{split-small}
 use Rattle.split_calls.proofs.Calls.{customers-fit, call-split}
 use Rattle.split_calls.proofs.Refusals.{refusals}
 use Rattle.whole.specs.Splits.{Customers, splitOfLogs, Shared, Splits}
+
+-- v of a customer's summary
+extents-at : (logs : List (List ℕ)) (i : ℕ) → extentsOf (getD (map summaryOf logs) i []) ≡ length (firsts (getD logs i []))
+extents-at [] i = unfold extentsOf firsts in refl
+extents-at (t ∷ logs) zero = extents-summary t
+extents-at (t ∷ logs) (suc i) = extents-at logs i
 
 module _ (logs : List (List ℕ)) (store : ℕ) (leasts buffer : List ℕ) (c : Customers logs store leasts) where
   -- the customers' summaries
@@ -58,6 +66,7 @@ module _ (logs : List (List ℕ)) (store : ℕ) (leasts buffer : List ℕ) (c : 
             ∙ ap (λ (ss : List (List ℕ)). divided ss leasts store buffer) cut-again
             ∙ ap (λ (n : ℕ). record { answer = Misses n; shares = shares ++ drop (length leasts) buffer }) (split-caches logs shares);
         allowed = b .allowed;
+        needed = λ i. rw (← extents-at logs i) (split-small summaries leasts store h i);
         best = λ others a.
             rw (← split-caches logs shares, ← split-caches logs others) (b .first others a);
       }

@@ -1,18 +1,18 @@
 -- One store split among customers, said of their logs.
-use Prim.Native.Nat.{ℕ, _≤_, _<_}
+use Prim.Native.Nat.{ℕ, _≤_, _<_, max}
 use mathlib.Core.Path.{_≡_}
 use mathlib.Core.Logic.{_↔_}
 use mathlib.Core.Bool.{true}
-use mathlib.Core.List.{List, _∷_, _++_, map, flatten, List·Memᴰ}
-use lib.ListN.{length, drop}
+use mathlib.Core.List.{List, [], _∷_, _++_, map, flatten, List·Memᴰ}
+use lib.ListN.{length, drop, getD}
 use Rattle.reuse.specs.Limits.{maxStore, maxCustomers}
-use Rattle.reuse.specs.Lists.{sum}
+use Rattle.reuse.specs.Lists.{sum, firsts}
 use Rattle.reuse.specs.Summary.{summaryOf}
 use Rattle.reuse.specs.Traces.{Within}
 use Rattle.split_calls.specs.declared.SplitAnswer.the-variants.{Misses}
 use Rattle.split_calls.specs.Split.{Allowed, cachedMisses, notAfter}
 use Rattle.split_calls.specs.Calls.{Divided, splitCall}
-use Rattle.split_calls.specs.Refusals.{refusalOf}
+use Rattle.split_calls.specs.Refusals.{splitRefusal}
 
 -- the logs of as many customers as may share a store, a least share for each, and a store that may be split
 pub record Customers (logs : List (List ℕ)) (store : ℕ) (leasts : List ℕ) : Type 0 where
@@ -34,6 +34,8 @@ cachedRank logs shares = cachedMisses logs shares ∷ sum shares ∷ shares
 pub record Shared (logs : List (List ℕ)) (store : ℕ) (leasts buffer shares : List ℕ) : Type 0 where
   pub answered : splitOfLogs logs store leasts buffer ≡ record { answer = Misses (cachedMisses logs shares); shares = shares ++ drop (length leasts) buffer }
   pub allowed : Allowed leasts store shares
+  -- none is above both its least and the number of the customer's extents
+  pub needed : (i : ℕ) → getD shares i 0 ≤ max (getD leasts i 0) (length (firsts (getD logs i [])))
   pub best : (others : List ℕ) → Allowed leasts store others → notAfter (cachedRank logs shares) (cachedRank logs others) ≡ true
 
 -- what holds of every split of a store among the logs' customers
@@ -41,4 +43,4 @@ pub record Splits (logs : List (List ℕ)) (store : ℕ) (leasts buffer : List �
   -- where the least shares fit and there is a word for each share, there are such shares
   pub found : sum leasts ≤ store → length leasts ≤ length buffer → (shares : List ℕ) × Shared logs store leasts buffer shares
   -- 10 exactly if the least shares add up to more than the store
-  pub turned-away : refusalOf (splitOfLogs logs store leasts buffer .answer) ≡ 10 ↔ store < sum leasts
+  pub turned-away : splitRefusal (splitOfLogs logs store leasts buffer .answer) ≡ 10 ↔ store < sum leasts

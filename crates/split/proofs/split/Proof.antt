@@ -32,57 +32,46 @@ known c = (
   c .total .ensures .0 ∙ few-total _ (omega arith),
 )
 
--- src/lib.rt:19:9
 returns : tie.Need-returns
 returns c = by-parts (call-store _ _ _ _ (omega arith))
 
--- src/lib.rt:22:9
 returns-2 : tie.Need-returns-2
 returns-2 c = by-parts (call-customers _ _ _ _ (omega arith) (customers-none (length (c .before .before .before .before .before .args .leasts .now)) (omega arith)))
 
--- src/lib.rt:25:9
 returns-3 : tie.Need-returns-3
 returns-3 c = by-parts (call-customers _ _ _ _ (omega arith) (customers-many (length (c .before .before .before .before .before .before .args .leasts .now)) (omega arith)))
 
--- src/lib.rt:27:9
 all-formed-requires : tie.Need-all-formed-requires
 all-formed-requires c κs = search needs
 
--- src/lib.rt:28:9
 returns-4 : tie.Need-returns-4
-returns-4 c = 
+returns-4 c =
     by-parts (call-summary _ _ _ _ (omega arith) (customers-fit (length (c .before .before .before .before .before .before .before .before .args .leasts .now)) (omega arith) (omega arith)) (sym (c .before .all-formed .ensures) ∙ not-true _ (c .if4 .taken)))
 
--- src/lib.rt:30:25
 total-requires : tie.Need-total-requires
 total-requires c κs = search needs
 
--- src/lib.rt:31:9
 returns-5 : tie.Need-returns-5
-returns-5 c = 
+returns-5 c =
     let (s, n, f, e) = known (c .before) in
     by-parts (call-least _ _ _ _ s n f (omega arith))
 
--- src/lib.rt:34:9
 returns-6 : tie.Need-returns-6
-returns-6 c = 
+returns-6 c =
     let (s, n, f, e) = known (c .before .before) in
     by-parts (call-room _ _ _ _ s n f (omega arith) (omega arith))
 
--- src/lib.rt:36:25
 search-requires : tie.Need-search-requires
-search-requires c κs = 
+search-requires c κs =
     let (s, n, f, e) = known (c .before .before .before) in
     record { formed = f; few = omega arith; fits = omega arith; small = s; room = omega arith }
 
--- src/lib.rt:13:1
 same-length : tie.Need-same-length
 same-length c = c .before .before .search .kept .1 .1 .1 .0
 
--- src/lib.rt:13:1
 returns-7 : tie.Need-returns-7
 unfolding divided
-returns-7 c = 
+returns-7 c =
     let a = c .before .before .before .before .before .before .before .before .before .before .before .before .before .before .before .args in
     let (s, n, f, e) = known (c .before .before .before .before .before .before) in
     let r = c .before .before .search .ensures in

@@ -8,9 +8,6 @@ use Rattle.split_calls.proofs.Cuts.{formed-none}
 use Rattle.split_formed.proofs.Testing.{Remaining, remaining-start, remaining-end, remaining-short, remaining-bad, remaining-turn}
 use Rattle.split_formed.proofs.all_formed.Statement.{statement}
 use Rattle.split_formed.proofs.all_formed.Tie as tie
-use Rattle.split_formed.proofs.all_formed.Reads as reads
-use Rattle.split_formed.proofs.all_formed.Lts as lts
-use Rattle.summary_formed.proofs.well_formed.Reads as well-formed-reads
 
 abbrev Inv-loop : tie.InvT-loop
 Inv-loop words customers at₀ left₀ at left = Remaining words customers at left
@@ -18,119 +15,90 @@ Inv-loop words customers at₀ left₀ at left = Remaining words customers at le
 abbrev μ-loop : tie.MeasureT-loop
 μ-loop words customers at₀ left₀ at left = left
 
--- src/lib.rt:12:9
 returns : tie.Need-returns Inv-loop μ-loop
 returns c = sym (formed-none _ _ (omega arith))
 
--- src/lib.rt:16:5
 loop-holds : tie.Need-loop-holds Inv-loop μ-loop
 loop-holds c = remaining-start _ _ (omega arith)
 
--- src/lib.rt:17:12
 sub-if2 : tie.Need-sub-if2 Inv-loop μ-loop
 sub-if2 c = search needs
 
--- src/lib.rt:18:13
 returns-2 : tie.Need-returns-2 Inv-loop μ-loop
 returns-2 c = let r = c .before .before .loop in remaining-short _ _ _ _ (r .inv) (omega arith) (λ a b. omega arith)
 
--- src/lib.rt:20:23
 add-v : tie.Need-add-v Inv-loop μ-loop
 add-v c = search needs
 
--- src/lib.rt:20:17
 mul-v : tie.Need-mul-v Inv-loop μ-loop
 mul-v c = search needs
 
--- src/lib.rt:20:17
 shared-slice-read-v : tie.Need-shared-slice-read-v Inv-loop μ-loop
 shared-slice-read-v c = search needs
 
--- src/lib.rt:20:17
 cast-v : tie.Need-cast-v Inv-loop μ-loop
 cast-v c = omega (arith, c .shared-slice-known2 .given (c .before .before .before .loop .at + 1))
 
--- src/lib.rt:22:13
 returns-3 : tie.Need-returns-3 Inv-loop μ-loop
 returns-3 c = let r = c .before .before .before .before .loop in remaining-short _ _ _ _ (r .inv) (omega arith) (λ a b. omega arith)
 
--- src/lib.rt:24:23
 mul-own : tie.Need-mul-own Inv-loop μ-loop
 mul-own c = search needs
 
--- src/lib.rt:24:19
 add-own : tie.Need-add-own Inv-loop μ-loop
 add-own c = search needs
 
--- src/lib.rt:25:12
 sub-if4 : tie.Need-sub-if4 Inv-loop μ-loop
 sub-if4 c = search needs
 
--- src/lib.rt:26:13
 returns-4 : tie.Need-returns-4 Inv-loop μ-loop
 returns-4 c = let r = c .before .before .before .before .before .loop in remaining-short _ _ _ _ (r .inv) (omega arith) (λ a b. omega arith)
 
--- src/lib.rt:28:19
 add-end : tie.Need-add-end Inv-loop μ-loop
 add-end c = search needs
 
--- src/lib.rt:29:41
 mul-well-formed : tie.Need-mul-well-formed Inv-loop μ-loop
 mul-well-formed c = search needs
 
--- src/lib.rt:29:41
 sub-well-formed : tie.Need-sub-well-formed Inv-loop μ-loop
 sub-well-formed c = search needs
 
--- src/lib.rt:29:41
 part-well-formed-start : tie.Need-part-well-formed-start Inv-loop μ-loop
 part-well-formed-start c = search needs
 
--- src/lib.rt:29:41
 part-well-formed-end : tie.Need-part-well-formed-end Inv-loop μ-loop
 part-well-formed-end c = search needs
 
--- src/lib.rt:29:13
 well-formed-requires : tie.Need-well-formed-requires Inv-loop μ-loop
 well-formed-requires c κs = search needs
 
--- src/lib.rt:30:13
 returns-5 : tie.Need-returns-5 Inv-loop μ-loop
 returns-5 c = let r = c .before .before .before .before .before .before .before .before .loop in remaining-bad _ _ _ _ (r .inv) (omega arith) _ refl (sym (c .before .well-formed .ensures) ∙ not-true _ (c .if5 .taken))
 
--- src/lib.rt:33:16
 sub-left : tie.Need-sub-left Inv-loop μ-loop
 sub-left c = search needs
 
--- src/lib.rt:16:5
 loop-less : tie.Need-loop-less Inv-loop μ-loop
 loop-less c = search needs
 
--- src/lib.rt:16:5
 loop-again : tie.Need-loop-again Inv-loop μ-loop
 loop-again c = let r = c .before .before .before .before .before .before .before .before .loop in remaining-turn _ _ _ _ (r .inv) (omega arith) _ refl (omega arith) (sym (c .before .well-formed .ensures) ∙ not-false _ (c .if5 .left))
 
--- src/lib.rt:35:33
 mul-well-formed-2 : tie.Need-mul-well-formed-2 Inv-loop μ-loop
 mul-well-formed-2 c = search needs
 
--- src/lib.rt:35:33
 sub-well-formed-2 : tie.Need-sub-well-formed-2 Inv-loop μ-loop
 sub-well-formed-2 c = search needs
 
--- src/lib.rt:35:33
 part-well-formed-start-2 : tie.Need-part-well-formed-start-2 Inv-loop μ-loop
 part-well-formed-start-2 c = search needs
 
--- src/lib.rt:35:33
 part-well-formed-end-2 : tie.Need-part-well-formed-end-2 Inv-loop μ-loop
 part-well-formed-end-2 c = search needs
 
--- src/lib.rt:35:5
 well-formed-requires-2 : tie.Need-well-formed-requires-2 Inv-loop μ-loop
 well-formed-requires-2 c κs = search needs
 
--- src/lib.rt:8:1
 returns-6 : tie.Need-returns-6 Inv-loop μ-loop
 returns-6 c = let r = c .before .before .before .loop in c .well-formed2 .ensures ∙ remaining-end _ _ _ _ (r .inv) (omega arith)
 

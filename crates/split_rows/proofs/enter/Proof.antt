@@ -4,7 +4,7 @@ use Rattle.split_rows.specs.Rows.{Rows}
 use Rattle.reuse_copies.proofs.Puts.{placed-fits}
 use borrow.Author.Tests.{not-true, not-false}
 use lib.ListN.{length}
-use mathlib.Core.Path.{_≡_, sym, ap, _∙_}
+use mathlib.Core.Path.{sym, ap, _∙_}
 use native.Mathlib.Omega.{arith}
 use borrow.Author.Needs.{needs}
 use Rattle.split_rows.proofs.enter.Statement.{statement}
@@ -37,78 +37,61 @@ known : (c : lts.Else1 Claims reads.Pre reads.Post) →
     let a = c .before .before .before .before .before .args in Fit (a .words .now) (a .least) (a .low) (a .store) (length (a .costs .now)) (length (a .table .now))
 known c = fit _ _ _ _ _ _ (sym (c .before .fits2 .ensures) ∙ not-false _ (c .if1 .left))
 
--- src/lib.rt:108:9
 fits-requires : tie.Need-fits-requires
 fits-requires c κs = search needs
 
--- src/lib.rt:109:9
 returns : tie.Need-returns
-returns c = 
+returns c =
     let a = c .before .before .before .before .before .args in
     let e = entered-not (a .words .now) (a .least) (a .low) (a .store) (a .costs .now) (a .table .now) (sym (c .before .fits2 .ensures) ∙ not-true _ (c .if1 .taken)) in
     (ap (λ (r : Rows). r .costs) (sym e), ap (λ (r : Rows). r .table) (sym e))
 
--- src/lib.rt:111:15
 misses-row-requires : tie.Need-misses-row-requires
 misses-row-requires c κs = record { few = known c .few; long = known c .long }
 
--- src/lib.rt:112:33
 slice-aggregate-put : tie.Need-slice-aggregate-put
 slice-aggregate-put c = search needs
 
--- src/lib.rt:112:5
 put-requires : tie.Need-put-requires
 put-requires c κs = search needs
 
--- src/lib.rt:113:13
 shared-slice-read-v : tie.Need-shared-slice-read-v
 shared-slice-read-v c = omega (arith, known (c .before .before .before .before .before .before .before) .long)
 
--- src/lib.rt:113:13
 cast-v : tie.Need-cast-v
 cast-v c = record { fits = omega (arith, known (c .before .before .before .before .before .before .before) .few) }
 
--- src/lib.rt:114:9
 smaller-requires : tie.Need-smaller-requires
 smaller-requires c κs = search needs
 
--- src/lib.rt:115:10
 mul-fill : tie.Need-mul-fill
 mul-fill c = record { fits = omega (arith, c .smaller .ensures, known (c .before .before .before .before .before .before .before .before) .few) }
 
--- src/lib.rt:115:10
 sub-fill : tie.Need-sub-fill
 sub-fill c = omega (arith, c .smaller .ensures, known (c .before .before .before .before .before .before .before .before) .few)
 
--- src/lib.rt:115:10
 part-fill-start : tie.Need-part-fill-start
 part-fill-start c = omega (arith, c .before .smaller .ensures, known (c .before .before .before .before .before .before .before .before .before) .few)
 
--- src/lib.rt:115:10
 part-fill-end : tie.Need-part-fill-end
 part-fill-end c = search needs
 
--- src/lib.rt:115:24
 sub-fill-2 : tie.Need-sub-fill-2
 sub-fill-2 c = search needs
 
--- src/lib.rt:115:5
 fill-requires : tie.Need-fill-requires
-fill-requires c κs = 
+fill-requires c κs =
     let a = c .before .before .before .before .before .before .before .before .before .before .before .before .before .before .before .before .args in
     rw (c .before .before .before .before .before .before .before .before .before .before .misses-row .ensures) (fit-fillable _ _ _ _ (a .costs .now) _ (known (c .before .before .before .before .before .before .before .before .before .before .before)) _ (c .before .before .before .smaller .ensures))
 
--- src/lib.rt:104:1
 same-length : tie.Need-same-length
 same-length c = search needs
 
--- src/lib.rt:104:1
 same-length-2 : tie.Need-same-length-2
 same-length-2 c = search needs
 
--- src/lib.rt:104:1
 returns-2 : tie.Need-returns-2
-returns-2 c = 
+returns-2 c =
     let a = c .before .before .before .before .before .before .before .before .before .before .before .before .before .before .before .before .before .before .before .args in
     let f = known (c .before .before .before .before .before .before .before .before .before .before .before .before .before .before) in
     let b = c .before .before .before .before .before .before .smaller .ensures in

@@ -5,10 +5,6 @@ use native.Mathlib.Omega.{arith}
 use borrow.Author.Needs.{needs}
 use Rattle.split_rows.proofs.fill.Statement.{statement}
 use Rattle.split_rows.proofs.fill.Tie as tie
-use Rattle.split_rows.proofs.fill.Reads as reads
-use Rattle.split_rows.proofs.fill.Lts as lts
-use Rattle.split_rows.proofs.least_sum.Reads as least-sum-reads
-use Rattle.split_rows.proofs.smaller.Reads as smaller-reads
 
 abbrev Inv-loop : tie.InvT-loop
 Inv-loop own span least low store table₀ t₀ table t = Filling own span least low store table₀ table t
@@ -38,7 +34,7 @@ sub-least-sum-2 : tie.Need-sub-least-sum-2 Inv-loop μ-loop
 sub-least-sum-2 c = search needs
 
 least-sum-requires : tie.Need-least-sum-requires Inv-loop μ-loop
-least-sum-requires c κs = 
+least-sum-requires c κs =
     filling-tries _ _ _ _ _ _ (c .before .before .before .before .before .before .before .pre) _ _ (c .before .before .before .before .loop .inv) (omega arith) _ (c .before .before .smaller .ensures)
 
 mul-table : tie.Need-mul-table Inv-loop μ-loop
@@ -54,7 +50,7 @@ loop-less : tie.Need-loop-less Inv-loop μ-loop
 loop-less c = search needs
 
 loop-again : tie.Need-loop-again Inv-loop μ-loop
-loop-again c = 
+loop-again c =
     filling-turn _ _ _ _ _ _ (c .before .before .before .before .before .before .before .before .pre) _ _ (c .before .before .before .before .before .loop .inv) (omega arith) _ _ (c .before .before .before .smaller .ensures) (c .least-sum .ensures)
 
 same-length : tie.Need-same-length Inv-loop μ-loop

@@ -7,9 +7,6 @@ use native.Mathlib.Omega.{arith}
 use borrow.Author.Needs.{needs}
 use Rattle.split_rows.proofs.least_sum.Statement.{statement}
 use Rattle.split_rows.proofs.least_sum.Tie as tie
-use Rattle.split_rows.proofs.least_sum.Reads as reads
-use Rattle.split_rows.proofs.least_sum.Lts as lts
-use Rattle.std.proofs.num.wrapping_add_u32.Reads as wrapping-add-u32-reads
 
 abbrev Inv-loop : tie.InvT-loop
 Inv-loop own others left tries least₀ i₀ least i = Scan (pairSum own others left) tries i least
@@ -17,76 +14,59 @@ Inv-loop own others left tries least₀ i₀ least i = Scan (pairSum own others 
 abbrev μ-loop : tie.MeasureT-loop
 μ-loop own others left tries least₀ i₀ least i = tries - i
 
--- src/lib.rt:48:48
 shared-slice-read-wrapping-add-u32 : tie.Need-shared-slice-read-wrapping-add-u32 Inv-loop μ-loop
 shared-slice-read-wrapping-add-u32 c = search needs
 
--- src/lib.rt:48:56
 mul-wrapping-add-u32 : tie.Need-mul-wrapping-add-u32 Inv-loop μ-loop
 mul-wrapping-add-u32 c = search needs
 
--- src/lib.rt:48:56
 shared-slice-read-wrapping-add-u32-2 :
     tie.Need-shared-slice-read-wrapping-add-u32-2 Inv-loop μ-loop
 shared-slice-read-wrapping-add-u32-2 c = search needs
 
--- src/lib.rt:48:9
 wrapping-add-u32-requires : tie.Need-wrapping-add-u32-requires Inv-loop μ-loop
 wrapping-add-u32-requires c κs = search needs
 
--- src/lib.rt:50:5
 loop-holds : tie.Need-loop-holds Inv-loop μ-loop
-loop-holds c = 
+loop-holds c =
     let a = c .before .before .before .before .before .args in
     scan-start _ _ _ (c .wrapping-add-u32 .ensures ∙ (let e : a .left - 0 ≡ a .left = omega arith in rw e))
 
--- src/lib.rt:51:13
 add-i : tie.Need-add-i Inv-loop μ-loop
 add-i c = search needs
 
--- src/lib.rt:52:44
 mul-wrapping-add-u32-2 : tie.Need-mul-wrapping-add-u32-2 Inv-loop μ-loop
 mul-wrapping-add-u32-2 c = search needs
 
--- src/lib.rt:52:44
 shared-slice-read-wrapping-add-u32-3 :
     tie.Need-shared-slice-read-wrapping-add-u32-3 Inv-loop μ-loop
 shared-slice-read-wrapping-add-u32-3 c = search needs
 
--- src/lib.rt:52:59
 sub-wrapping-add-u32 : tie.Need-sub-wrapping-add-u32 Inv-loop μ-loop
 sub-wrapping-add-u32 c = search needs
 
--- src/lib.rt:52:52
 mul-wrapping-add-u32-3 : tie.Need-mul-wrapping-add-u32-3 Inv-loop μ-loop
 mul-wrapping-add-u32-3 c = search needs
 
--- src/lib.rt:52:52
 shared-slice-read-wrapping-add-u32-4 :
     tie.Need-shared-slice-read-wrapping-add-u32-4 Inv-loop μ-loop
 shared-slice-read-wrapping-add-u32-4 c = search needs
 
--- src/lib.rt:52:13
 wrapping-add-u32-requires-2 : tie.Need-wrapping-add-u32-requires-2 Inv-loop μ-loop
 wrapping-add-u32-requires-2 c κs = search needs
 
--- src/lib.rt:50:5
 loop-less : tie.Need-loop-less Inv-loop μ-loop
 loop-less c = search needs
 
--- src/lib.rt:50:5
 loop-again : tie.Need-loop-again Inv-loop μ-loop
 loop-again c = scan-turn _ _ _ _ _ (c .before .before .before .before .before .loop .inv) (omega arith) (omega (arith, c .before .wrapping-add-u322 .ensures))
 
--- src/lib.rt:50:5
 loop-less-2 : tie.Need-loop-less-2 Inv-loop μ-loop
 loop-less-2 c = search needs
 
--- src/lib.rt:50:5
 loop-again-2 : tie.Need-loop-again-2 Inv-loop μ-loop
 loop-again-2 c = scan-turn _ _ _ _ _ (c .before .before .before .before .before .loop .inv) (omega arith) (omega (arith, c .before .wrapping-add-u322 .ensures))
 
--- src/lib.rt:44:1
 returns : tie.Need-returns Inv-loop μ-loop
 returns c = scan-end _ _ _ _ (c .before .loop .inv) (omega arith)
 

@@ -4,9 +4,6 @@ use native.Mathlib.Omega.{arith}
 use borrow.Author.Needs.{needs}
 use Rattle.split_rows.proofs.misses_row.Statement.{statement}
 use Rattle.split_rows.proofs.misses_row.Tie as tie
-use Rattle.split_rows.proofs.misses_row.Reads as reads
-use Rattle.split_rows.proofs.misses_row.Lts as lts
-use Rattle.std.proofs.num.wrapping_add_u32.Reads as wrapping-add-u32-reads
 
 abbrev Inv-loop : tie.InvT-loop
 Inv-loop words v counts row₀ s₀ row s = Counted words row s
@@ -14,83 +11,63 @@ Inv-loop words v counts row₀ s₀ row s = Counted words row s
 abbrev μ-loop : tie.MeasureT-loop
 μ-loop words v counts row₀ s₀ row s = s
 
--- src/lib.rt:31:13
 shared-slice-read-v : tie.Need-shared-slice-read-v Inv-loop μ-loop
 shared-slice-read-v c = search needs
 
--- src/lib.rt:31:13
 cast-v : tie.Need-cast-v Inv-loop μ-loop
 cast-v c = search needs
 
--- src/lib.rt:32:22
 mul-counts : tie.Need-mul-counts Inv-loop μ-loop
 mul-counts c = search needs
 
--- src/lib.rt:32:18
 add-counts : tie.Need-add-counts Inv-loop μ-loop
 add-counts c = search needs
 
--- src/lib.rt:33:20
 shared-slice-read-row : tie.Need-shared-slice-read-row Inv-loop μ-loop
 shared-slice-read-row c = search needs
 
--- src/lib.rt:35:5
 loop-holds : tie.Need-loop-holds Inv-loop μ-loop
 loop-holds c = counted-start _ (c .before .before .before .pre)
 
--- src/lib.rt:36:27
 add-saved : tie.Need-add-saved Inv-loop μ-loop
 add-saved c = search needs
 
--- src/lib.rt:36:27
 sub-saved : tie.Need-sub-saved Inv-loop μ-loop
 sub-saved c = search needs
 
--- src/lib.rt:36:21
 mul-saved : tie.Need-mul-saved Inv-loop μ-loop
 mul-saved c = search needs
 
--- src/lib.rt:36:21
 shared-slice-read-saved : tie.Need-shared-slice-read-saved Inv-loop μ-loop
 shared-slice-read-saved c = search needs
 
--- src/lib.rt:37:49
 mul-wrapping-add-u32 : tie.Need-mul-wrapping-add-u32 Inv-loop μ-loop
 mul-wrapping-add-u32 c = search needs
 
--- src/lib.rt:37:49
 array-read-wrapping-add-u32 : tie.Need-array-read-wrapping-add-u32 Inv-loop μ-loop
 array-read-wrapping-add-u32 c = search needs
 
--- src/lib.rt:37:22
 wrapping-add-u32-requires : tie.Need-wrapping-add-u32-requires Inv-loop μ-loop
 wrapping-add-u32-requires c κs = search needs
 
--- src/lib.rt:37:13
 sub-row : tie.Need-sub-row Inv-loop μ-loop
 sub-row c = search needs
 
--- src/lib.rt:37:9
 mul-row : tie.Need-mul-row Inv-loop μ-loop
 mul-row c = search needs
 
--- src/lib.rt:37:9
 array-write-row : tie.Need-array-write-row Inv-loop μ-loop
 array-write-row c = search needs
 
--- src/lib.rt:38:13
 sub-s : tie.Need-sub-s Inv-loop μ-loop
 sub-s c = search needs
 
--- src/lib.rt:35:5
 loop-less : tie.Need-loop-less Inv-loop μ-loop
 loop-less c = search needs
 
--- src/lib.rt:35:5
 loop-again : tie.Need-loop-again Inv-loop μ-loop
 loop-again c = counted-turn _ (c .before .before .before .before .before .before .before .pre) _ _ (c .before .before .before .loop .inv) (omega arith) _ (c .wrapping-add-u32 .ensures)
 
--- src/lib.rt:27:1
 returns : tie.Need-returns Inv-loop μ-loop
 returns c = counted-end _ _ _ (c .before .loop .inv) (omega arith)
 

@@ -5,7 +5,6 @@ use borrow.Rule.Slice.PartMut.{mid-len}
 use Rattle.split.proofs.Choosing.{chosen-none, seeking, choosing-rest, chosen-all}
 use lib.ListN.{length, set, length-set}
 use native.Mathlib.Omega.{arith}
-use borrow.Author.Needs.{needs}
 use Prim.Native.Nat.{ℕ, _-_, _≤_, _<_}
 use borrow.Fn.Kinds.{In}
 use borrow.Fn.PlainCycle.{Measures, is, falls, and}
@@ -71,7 +70,7 @@ choose-shared-slice-read-share-at : (t : ℕ) → choose-lts.Need-shared-slice-r
 choose-shared-slice-read-share-at t c = omega arith
 
 choose-share-at-requires : (t : ℕ) → choose-lts.Need-share-at-requires (choose-claims t) (choose-at t) choose.Post
-choose-share-at-requires t c κs = 
+choose-share-at-requires t c κs =
     let a = c .before .before .before .before .before .before .before .before in
     seeking (a .args .left) (a .args .costs .now) (a .args .table .now) (a .args .shares .now) (a .pre .1 .0) (a .pre .1 .1) (a .args .leasts .now) (a .pre .1 .2) (omega arith)
 
@@ -121,7 +120,7 @@ choose-part-choose-end-4 : (t : ℕ) → choose-lts.Need-part-choose-end-4 (choo
 choose-part-choose-end-4 t c = omega arith
 
 choose-choose-requires : (t : ℕ) → choose-lts.Need-choose-requires (choose-claims t) (choose-at t) choose.Post
-choose-choose-requires t c κs = 
+choose-choose-requires t c κs =
     let a = c .before .before .before .before .before .before .before .before .before .before .before .before .before in
     let s = c .before .before .before .before .share-at in (
       omega (arith, a .pre .0, mid-len 1 (length (a .args .leasts .now)) (a .args .leasts .now) (omega arith)),
@@ -129,13 +128,13 @@ choose-choose-requires t c κs =
     )
 
 choose-same-length : (t : ℕ) → choose-lts.Need-same-length (choose-claims t) (choose-at t) choose.Post
-choose-same-length t c = 
+choose-same-length t c =
     let a = c .before .before .before .before .before .before .before .before .before .before .before .before .before .before .before .before in
     let r = c .before .before .before .before .before .before .before .share-at .result in
     back-length 1 (set (a .args .shares .now) 0 r) (c .before .before .choose .last .1 .1 .1 .1 .0) (word t (c .before .before .before .before .before .before .before)) (long t c) ∙ length-set (a .args .shares .now) 0 r
 
 choose-returns-2 : (t : ℕ) → choose-lts.Need-returns-2 (choose-claims t) (choose-at t) choose.Post
-choose-returns-2 t c = 
+choose-returns-2 t c =
     let a = c .before .before .before .before .before .before .before .before .before .before .before .before .before .before .before .before .args in
     let s = c .before .before .before .before .before .before .before .share-at in
     let k = c .before .before .choose in

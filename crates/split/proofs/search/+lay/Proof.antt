@@ -1,16 +1,15 @@
 -- `split::search::lay` meets its contract. It calls itself with one customer less.
-use Rattle.split.specs.Search.{Laid}
+use Rattle.split.specs.Search.{TableLaid}
 use Rattle.split_rows.specs.Rows.{sizes, rooms}
 use Rattle.split_calls.specs.Cuts.{ownWords}
 use Rattle.reuse_rows.proofs.Parts.{back-length}
 use lib.Seq.{length-take-le}
 use mathlib.Core.Path.{_≡_, sym, _∙_}
-use borrow.Rule.Slice.PartMut.{midOf, putMid, mid-len}
+use borrow.Rule.Slice.PartMut.{midOf, mid-len}
 use Rattle.split_calls.proofs.Cuts.{own-inside}
 use Rattle.split.proofs.Laying.{laid-none, rest-laying, laid-fits, laid-done}
 use lib.ListN.{length, getD}
 use native.Mathlib.Omega.{arith}
-use borrow.Author.Needs.{needs}
 use Prim.Native.Nat.{ℕ, _+_, _-_, _≤_, _<_}
 use borrow.Fn.Kinds.{In}
 use borrow.Fn.PlainCycle.{Measures, is, falls, and}
@@ -66,7 +65,7 @@ laid : (t : ℕ) (c : lay-lts.After-shared-slice-known3 (lay-claims t) (lay-at t
     let a = c .before .before .before .before .before .before .before .before .before .before .before .before .before .before .before .before .args in
     let e = c .before .before .before .before .before .lay in
     let own = ownWords (length (a .leasts .now)) (a .words .now) in
-    Laid (midOf own (length (a .words .now) - own) (a .words .now)) (midOf 1 (length (a .leasts .now) - 1) (a .leasts .now)) (a .store) (e .result) (e .last .1 .1 .1 .0) (e .last .1 .1 .1 .1 .0)
+    TableLaid (midOf own (length (a .words .now) - own) (a .words .now)) (midOf 1 (length (a .leasts .now) - 1) (a .leasts .now)) (a .store) (e .result) (e .last .1 .1 .1 .0) (e .last .1 .1 .1 .1 .0)
 laid t c = rw (c .before .before .before .before .before .before .before .before .before .before .own-words .ensures) at (c .before .before .before .before .before .lay .ensures)
 
 -- with the first customer's the least shares fit the store
@@ -120,7 +119,7 @@ lay-part-lay-end-4 : (t : ℕ) → lay-lts.Need-part-lay-end-4 (lay-claims t) (l
 lay-part-lay-end-4 t c = omega arith
 
 lay-lay-requires : (t : ℕ) → lay-lts.Need-lay-requires (lay-claims t) (lay-at t) lay.Post
-lay-lay-requires t c κs = 
+lay-lay-requires t c κs =
     let a = c .before .before .before .before .before .before .before .before .before .before in
     let n = c .before .before .before .before .own-words in (
       omega (arith, a .pre .0, some t (c .before .before .before .before), mid-len 1 (length (a .args .leasts .now)) (a .args .leasts .now) (omega arith)),
@@ -143,17 +142,17 @@ lay-enter-requires : (t : ℕ) → lay-lts.Need-enter-requires (lay-claims t) (l
 lay-enter-requires t c κs = omega arith
 
 lay-same-length : (t : ℕ) → lay-lts.Need-same-length (lay-claims t) (lay-at t) lay.Post
-lay-same-length t c = 
+lay-same-length t c =
     let a = c .before .before .before .before .before .before .before .before .before .before .before .before .before .before .before .before .before .before .before .before .before .before .before .before in
     c .before .before .before .before .enter .kept .1 .1 .1 .1 .0 ∙ back-length sizes (a .args .costs .now) (c .before .before .before .before .before .before .before .before .before .before .before .before .before .lay .last .1 .1 .1 .0) (omega (arith, some t (c .before .before .before .before .before .before .before .before .before .before .before .before .before .before .before .before .before .before), a .pre .1 .costs-long)) (back t (c .before .before .before .before .before .before .before .before) .0)
 
 lay-same-length-2 : (t : ℕ) → lay-lts.Need-same-length-2 (lay-claims t) (lay-at t) lay.Post
-lay-same-length-2 t c = 
+lay-same-length-2 t c =
     let a = c .before .before .before .before .before .before .before .before .before .before .before .before .before .before .before .before .before .before .before .before .before .before .before .before in
     c .before .before .before .before .enter .kept .1 .1 .1 .1 .1 .0 ∙ back-length rooms (a .args .table .now) (c .before .before .before .before .before .before .before .before .before .before .before .before .before .lay .last .1 .1 .1 .1 .0) (omega (arith, a .pre .1 .table-long)) (back t (c .before .before .before .before .before .before .before .before) .1)
 
 lay-returns-2 : (t : ℕ) → lay-lts.Need-returns-2 (lay-claims t) (lay-at t) lay.Post
-lay-returns-2 t c = 
+lay-returns-2 t c =
     let a = c .before .before .before .before .before .before .before .before .before .before .before .before .before .before .before .before .before .before .before .before .before .before .before .before in
     let k = c .before .before .before .before .before .before .before .before in
     let n = c .before .before .before .before .before .before .before .before .before .before .before .before .before .before .before .before .before .before .own-words in

@@ -7,7 +7,6 @@ use lib.ListN.{length, getD}
 use native.Mathlib.Omega.{arith}
 use Prim.Native.Nat.{_+_, _*_, _≤_}
 use mathlib.Core.Path.{_≡_, sym}
-use borrow.Author.Needs.{needs}
 use Rattle.split.proofs.search.own_words.Statement.{statement}
 use Rattle.split.proofs.search.own_words.Tie as tie
 use Rattle.split.proofs.search.own_words.Reads as reads
@@ -20,27 +19,21 @@ fits : (c : lts.After-shared-slice-known reads.Pre reads.Post) →
 unfolding extentsOf
 fits c = own-fits _ _ (omega (arith, c .before .before .pre .some)) (c .before .before .pre .formed)
 
--- src/search.rt:22:9
 returns : tie.Need-returns
 returns c = sym (simp (eq-eqb _ _ (let e : c .before .args .customers ≡ 1 = omega arith in e)))
 
--- src/search.rt:24:13
 shared-slice-read-v : tie.Need-shared-slice-read-v
 shared-slice-read-v c = omega (arith, fits c .0)
 
--- src/search.rt:24:13
 cast-v : tie.Need-cast-v
 cast-v c = record { fits = omega (arith, fits c .1) }
 
--- src/search.rt:25:9
 mul-result : tie.Need-mul-result
 mul-result c = record { fits = omega (arith, fits c .1) }
 
--- src/search.rt:25:5
 add-result : tie.Need-add-result
 add-result c = record { fits = omega (arith, fits c .1) }
 
--- src/search.rt:17:1
 returns-2 : tie.Need-returns-2
 unfolding extentsOf
 returns-2 c = sym (simp (ne-eqb (c .before .before .args .customers) 1 (λ e. omega arith)))

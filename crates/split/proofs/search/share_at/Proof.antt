@@ -4,7 +4,7 @@ use Rattle.split.specs.Search.{withShare, Seeking}
 use Rattle.reuse.specs.Limits.{maxExtents}
 use mathlib.Core.Path.{_≡_}
 use Prim.Native.Nat.{_+_, _-_, _≤_, _<_, min}
-use lib.ListN.{length, getD}
+use lib.ListN.{length}
 use native.Mathlib.Omega.{arith}
 use borrow.Author.Needs.{needs}
 use Rattle.split.proofs.search.share_at.Statement.{statement}
@@ -14,7 +14,7 @@ use Rattle.split.proofs.search.share_at.Lts as lts
 use Rattle.split_rows.proofs.smaller.Reads as smaller-reads
 
 abbrev Inv-loop : tie.InvT-loop
-Inv-loop costs others misses least left share₀ size₀ share size = 
+Inv-loop costs others misses least left share₀ size₀ share size =
     (size ≡ min share maxExtents) × ((g : Seeking costs others misses least left) → Passed (withShare costs others left) misses least (g .some) share)
 
 abbrev μ-loop : tie.MeasureT-loop
@@ -38,65 +38,52 @@ turned c g =
     let l = c .before .before .before .loop in
     passed-turn _ _ _ _ _ (g .reached) (l .inv .1 g) (λ e. c .if1 .taken (rw (l .inv .0) e))
 
--- src/search.rt:62:9
 smaller-requires : tie.Need-smaller-requires Inv-loop μ-loop
 smaller-requires c κs = search needs
 
--- src/search.rt:63:5
 loop-holds : tie.Need-loop-holds Inv-loop μ-loop
 loop-holds c = (c .smaller .ensures, λ g. passed-start _ _ _ _ (g .low))
 
--- src/search.rt:63:11
 mul-if1 : tie.Need-mul-if1 Inv-loop μ-loop
 mul-if1 c = record { fits = omega (arith, looked c) }
 
--- src/search.rt:63:11
 shared-slice-read-if1 : tie.Need-shared-slice-read-if1 Inv-loop μ-loop
 shared-slice-read-if1 c = looked (c .before) .3
 
--- src/search.rt:63:32
 sub-if1 : tie.Need-sub-if1 Inv-loop μ-loop
 sub-if1 c = looked (c .before) .2
 
--- src/search.rt:63:25
 mul-if1-2 : tie.Need-mul-if1-2 Inv-loop μ-loop
 mul-if1-2 c = search needs
 
--- src/search.rt:63:25
 shared-slice-read-if1-2 : tie.Need-shared-slice-read-if1-2 Inv-loop μ-loop
 shared-slice-read-if1-2 c = omega (arith, c .before .before .before .before .before .before .pre .others-long)
 
--- src/search.rt:63:11
 add-if1 : tie.Need-add-if1 Inv-loop μ-loop
-add-if1 c = 
+add-if1 c =
     let a = c .before .before .before .before .before .before in
     let l = c .before .before .loop in
     let k = looked (c .before .before) in
     record { fits = rw (l .inv .0) (a .pre .small (l .share) (k .1) (k .0)) }
 
--- src/search.rt:64:17
 add-share : tie.Need-add-share Inv-loop μ-loop
-add-share c = 
+add-share c =
     let a = c .before .before .before .before .before .before .before in
     record { fits = omega (arith, turned c (a .pre) .inside, a .pre .high) }
 
--- src/search.rt:65:9
 smaller-requires-2 : tie.Need-smaller-requires-2 Inv-loop μ-loop
 smaller-requires-2 c κs = search needs
 
--- src/search.rt:63:5
 loop-less : tie.Need-loop-less Inv-loop μ-loop
-loop-less c = 
+loop-less c =
     let a = c .before .before .before .before .before .before .before .before in
     omega (arith, turned (c .before) (a .pre) .inside, a .pre .high)
 
--- src/search.rt:63:5
 loop-again : tie.Need-loop-again Inv-loop μ-loop
 loop-again c = (c .smaller2 .ensures, turned (c .before))
 
--- src/search.rt:57:1
 returns : tie.Need-returns Inv-loop μ-loop
-returns c = 
+returns c =
     let a = c .before .before .before .before .before .before .before in
     let l = c .before .before .before .loop in
     let i = l .inv .1 (a .pre) in

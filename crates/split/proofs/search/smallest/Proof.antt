@@ -20,41 +20,32 @@ abbrev μ-loop : tie.MeasureT-loop
 turned : (c : lts.Then1 reads.Pre reads.Post Inv-loop μ-loop) → Passed (λ i. getD (c .before .before .before .before .args .row .now) i 0) (getD (c .before .before .before .before .args .row .now) (c .before .before .before .before .args .store) 0) (c .before .before .before .before .args .low) (c .before .before .before .before .args .store) (c .before .before .before .loop .t + 1)
 turned c = passed-turn _ _ _ _ _ refl (c .before .before .before .loop .inv) (c .if1 .taken)
 
--- src/search.rt:50:5
 loop-holds : tie.Need-loop-holds Inv-loop μ-loop
 loop-holds c = passed-start _ _ _ _ (c .pre .forward)
 
--- src/search.rt:50:11
 mul-if1 : tie.Need-mul-if1 Inv-loop μ-loop
 mul-if1 c = search needs
 
--- src/search.rt:50:11
 shared-slice-read-if1 : tie.Need-shared-slice-read-if1 Inv-loop μ-loop
 shared-slice-read-if1 c = search needs
 
--- src/search.rt:50:21
 mul-if1-2 : tie.Need-mul-if1-2 Inv-loop μ-loop
 mul-if1-2 c = search needs
 
--- src/search.rt:50:21
 shared-slice-read-if1-2 : tie.Need-shared-slice-read-if1-2 Inv-loop μ-loop
 shared-slice-read-if1-2 c = search needs
 
--- src/search.rt:51:13
 add-t : tie.Need-add-t Inv-loop μ-loop
 add-t c = record { fits = omega (arith, turned c .inside, c .before .before .before .before .pre .inside) }
 
--- src/search.rt:50:5
 loop-less : tie.Need-loop-less Inv-loop μ-loop
 loop-less c = omega (arith, turned c .inside)
 
--- src/search.rt:50:5
 loop-again : tie.Need-loop-again Inv-loop μ-loop
 loop-again c = turned c
 
--- src/search.rt:45:1
 returns : tie.Need-returns Inv-loop μ-loop
-returns c = 
+returns c =
     let l = c .before .before .before .loop in
     record { forward = l .inv .forward; inside = l .inv .inside; reached = c .if1 .left; first = l .inv .none }
 
