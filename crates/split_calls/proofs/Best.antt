@@ -89,7 +89,7 @@ unfolding bestOf
 best-listed summaries [] o a m = absurd (List·Memᴰ·not-nil m)
 best-listed summaries (b ∷ l) o a m = (kept-in summaries b l, kept-first summaries b l o)
 
--- where the least shares fit, the split is what the request asks for
+-- where the least shares fit, the split is what 02 asks for
 pub split-best : (summaries : List (List ℕ)) (leasts : List ℕ) (room : ℕ) → sum leasts ≤ room → Best summaries leasts room (splitOf summaries leasts room)
 unfolding splitOf
 split-best summaries leasts room h =

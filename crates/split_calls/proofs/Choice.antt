@@ -124,7 +124,7 @@ module _ (summaries : List (List ℕ)) (leasts : List ℕ) (room : ℕ) (h : sum
       let d : fewest summaries leasts room ≤ fewest summaries leasts (sum shares) = fewest-falls summaries leasts (sum shares) room l (a .fits) in
       total-first (sum shares) l (a .fits) (omega arith) .least
 
-  -- the choice is what the request asks for
+  -- the choice is what 02 asks for
   pub choice-best : Best summaries leasts room (chosen summaries leasts (smallestTotal summaries leasts room))
   choice-best =
       let t : ℕ = smallestTotal summaries leasts room in

@@ -55,7 +55,7 @@ module _ (logs : List (List ℕ)) (store : ℕ) (leasts buffer : List ℕ) (c : 
   abbrev shares : List ℕ
   shares = splitOf summaries leasts store
 
-  -- shares as the request asks for, over the caches
+  -- shares as 02 asks for, over the caches
   shared : sum leasts ≤ store → length leasts ≤ length buffer → Shared logs store leasts buffer shares
   unfolding splitOfLogs divided rank
   shared h k =

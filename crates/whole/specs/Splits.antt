@@ -30,7 +30,7 @@ splitOfLogs logs store leasts buffer = splitCall store leasts (flatten (map summ
 abbrev pub cachedRank : List (List ℕ) → List ℕ → List ℕ
 cachedRank logs shares = cachedMisses logs shares ∷ sum shares ∷ shares
 
--- shares that may be given, none of which that may be given comes before, and the misses in all of caches as large
+-- these shares are the answer: the misses are those of caches as large, they may be given, and no others that may come before them
 pub record Shared (logs : List (List ℕ)) (store : ℕ) (leasts buffer shares : List ℕ) : Type 0 where
   pub answered : splitOfLogs logs store leasts buffer ≡ record { answer = Misses (cachedMisses logs shares); shares = shares ++ drop (length leasts) buffer }
   pub allowed : Allowed leasts store shares
