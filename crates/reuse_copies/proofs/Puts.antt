@@ -4,7 +4,7 @@ use Prim.Native.Nat.{ℕ, suc, _+_, _-_, _≤_, _<_}
 use native.Mathlib.Omega.{arith}
 use mathlib.Core.List.{List, [], _∷_, _++_, append-assoc}
 use lib.ListN.{length, take, drop, getD, set, drop-of-length-le, take-append-drop, length-append, length-take, length-drop, length-set}
-use lib.Seq.{take-suc-set, drop-set-lt, drop-drop, drop-at, take-at, take-take, take-append-le, length-take-le}
+use lib.Seq.{take-suc-set, drop-set-lt, drop-drop, drop-at, take-at, take-take, take-append-le, length-take-le, getD-take, getD-drop}
 use borrow.Author.Tests.{le-leb, lt-leb}
 use Rattle.reuse_rows.specs.Rows.{putAt, placed}
 use Rattle.reuse_rows.proofs.Slices.{next-word}
@@ -72,6 +72,13 @@ module _ (w : List ℕ) (at : ℕ) (l : List ℕ) (fits : at + length l ≤ leng
       ∙ ap (drop (n - (at + length l))) (drop-at (take at w ++ l) (drop (at + length l) w) (at + length l) before-put)
       ∙ drop-drop (n - (at + length l)) (at + length l) w
       ∙ ap (λ (k : ℕ). drop k w) e
+
+-- a place of words that were put
+pub put-at : (o : List ℕ) (at : ℕ) (l : List ℕ) (j : ℕ) → at + length l ≤ length o → j < length l → getD (putAt o at l) (at + j) 0 ≡ getD l j 0
+put-at o at l j fits h =
+    sym (getD-drop at (putAt o at l) j 0)
+    ∙ sym (getD-take (length l) (drop at (putAt o at l)) j 0 h)
+    ∙ ap (λ (r : List ℕ). getD r j 0) (put-there o at l fits)
 
 -- words that fit are put
 pub placed-fits : (o : List ℕ) (n : ℕ) (l : List ℕ) → n + length l ≤ length o → placed o n l ≡ putAt o n l

@@ -1,34 +1,26 @@
 -- One customer more before the others: where its summary is well formed and theirs are, nothing wraps, and the rows are those of it and them.
 use mathlib.Core.Path.{_≡_, sym, ap, _∙_}
-use Prim.Native.Nat.{ℕ, suc, _+_, _-_, _≤_, _<_, _%_, _^_, min}
+use Prim.Native.Nat.{ℕ, suc, _+_, _-_, _≤_, _%_, _^_, min}
 use native.Mathlib.Omega.{arith}
 use native.Mathlib.Nat.{zero-add}
 use mathlib.Core.List.{List, _∷_, map}
 use mathlib.Core.Bool.{true}
 use lib.ListN.{length, drop, getD, length-map}
-use lib.Seq.{getD-take, getD-drop}
 use Rattle.reuse.specs.Limits.{maxStore, maxCustomers}
 use Rattle.reuse.specs.Lists.{from, sum}
 use Rattle.reuse.specs.Summary.{extentsOf, missesOf, wellFormed}
 use Rattle.reuse.proofs.Formed.{Formed, formed}
 use Rattle.reuse.proofs.Counts.{length-from, map-from-at}
 use Rattle.reuse_rows.specs.Rows.{putAt}
-use Rattle.reuse_copies.proofs.Puts.{put-there, put-after}
+use Rattle.reuse_copies.proofs.Puts.{put-at, put-after}
 use Rattle.split_calls.specs.Tables.{lowest, fewest}
 use Rattle.split_calls.specs.Calls.{allFormed}
 use Rattle.split_calls.proofs.Cuts.{each-formed}
 use Rattle.split_calls.proofs.Fewest.{fewest-front}
 use Rattle.split_calls.proofs.Steps.{lowest-same, misses-small, fewest-small}
 use Rattle.split_rows.specs.Rows.{sizes, rooms, missesRow, together, entryOf, enteredRows}
-use Rattle.split_rows.proofs.Entering.{Fit, fit-passes}
+use Rattle.split_rows.proofs.Entering.{Fit, fit-passes, row-long}
 use Rattle.split.specs.Search.{Costs, Entries}
-
--- a place of words that were put
-put-at : (o : List ℕ) (at : ℕ) (l : List ℕ) (j : ℕ) → at + length l ≤ length o → j < length l → getD (putAt o at l) (at + j) 0 ≡ getD l j 0
-put-at o at l j fits h =
-    sym (getD-drop at (putAt o at l) j 0)
-    ∙ sym (getD-take (length l) (drop at (putAt o at l)) j 0 h)
-    ∙ ap (λ (r : List ℕ). getD r j 0) (put-there o at l fits)
 
 -- the customers after one with this least share, whose row is the table's second
 pub record Entering (least low store : ℕ) (costs table : List ℕ) : Type 0 where
@@ -63,11 +55,6 @@ module _ (w : List ℕ) (g : wellFormed w ≡ true) (least low store : ℕ) (cos
   unfolding enteredRows
   rows-made = rw (fit-passes w least low store (length costs) (length table) fits)
 
-  -- as long as all sizes
-  row-long : length (missesRow w) ≡ sizes
-  unfolding missesRow
-  row-long = simp length-map (length-from 0 sizes)
-
   -- as long as the rooms
   entries-long : length (map (entryOf w least low (drop rooms table)) (from low (suc store - low))) ≡ suc store - low
   entries-long = simp length-map (length-from low (suc store - low))
@@ -77,7 +64,7 @@ module _ (w : List ℕ) (g : wellFormed w ≡ true) (least low store : ℕ) (cos
   unfolding missesRow
   own-costs s h =
       ap (λ (n : ℕ). getD (putAt costs 0 (missesRow w)) n 0) (sym (zero-add s))
-      ∙ put-at costs 0 (missesRow w) s (omega (arith, row-long, o .costs-long)) (omega (arith, row-long))
+      ∙ put-at costs 0 (missesRow w) s (omega (arith, row-long w, o .costs-long)) (omega (arith, row-long w))
       ∙ map-from-at (λ n. missesOf w n % 2 ^ 32) 0 sizes s h
       ∙ ap (λ (n : ℕ). missesOf w n % 2 ^ 32) (zero-add s)
       ∙ (let q : missesOf w s % 2 ^ 32 ≡ missesOf w s = omega (arith, misses-small w s g) in q)
@@ -114,7 +101,7 @@ module _ (w : List ℕ) (g : wellFormed w ≡ true) (least low store : ℕ) (cos
 
   -- the rows of misses after it are as they were
   pub costs-past : drop sizes (putAt costs 0 (missesRow w)) ≡ drop sizes costs
-  costs-past = put-after costs 0 (missesRow w) (omega (arith, row-long, o .costs-long)) sizes (omega (arith, row-long))
+  costs-past = put-after costs 0 (missesRow w) (omega (arith, row-long w, o .costs-long)) sizes (omega (arith, row-long w))
 
   -- and the rows of the table
   pub table-past : drop rooms (putAt table low (map (entryOf w least low (drop rooms table)) (from low (suc store - low)))) ≡ drop rooms table

@@ -86,6 +86,11 @@ pub entered-not : (w : List ℕ) (least low store : ℕ) (costs table : List ℕ
 unfolding enteredRows
 entered-not w least low store costs table h = rw h
 
+-- a row of misses is as long as all sizes
+pub row-long : (w : List ℕ) → length (missesRow w) ≡ sizes
+unfolding missesRow
+row-long w = simp length-map (length-from 0 sizes)
+
 -- a place of both of two runs is one of the first, and of the second
 in-both : (a b i : ℕ) → i ≤ min a b → (i ≤ a) × (i ≤ b)
 in-both a b i h = (omega arith, omega arith)
@@ -102,11 +107,6 @@ module _ (w : List ℕ) (least low store : ℕ) (costs table : List ℕ) (f : Fi
   -- there are misses from there on
   base-inside : base + (getD w 1 0 - base) < sizes
   base-inside = omega (arith, f .few)
-
-  -- as long as all sizes
-  row-long : length (missesRow w) ≡ sizes
-  unfolding missesRow
-  row-long = simp length-map (length-from 0 sizes)
 
   -- the customer's misses with i extents past its least share
   part-at : (i : ℕ) → i ≤ getD w 1 0 - base → getD (midOf base (sizes - base) (missesRow w)) i 0 ≡ missesOf w (least + i) % 2 ^ 32
@@ -125,7 +125,7 @@ module _ (w : List ℕ) (least low store : ℕ) (costs table : List ℕ) (f : Fi
   -- the first row can be filled
   pub fit-fillable : Fillable (midOf base (sizes - base) (missesRow w)) (getD w 1 0 - base) least low store table
   fit-fillable = record {
-    there = omega (arith, length-take (sizes - base) (drop base (missesRow w)), length-drop base (missesRow w), row-long, base-inside);
+    there = omega (arith, length-take (sizes - base) (drop base (missesRow w)), length-drop base (missesRow w), row-long w, base-inside);
     least-low = f .least-low;
     fits = f .low-store;
     small = f .small;
@@ -152,4 +152,4 @@ module _ (w : List ℕ) (least low store : ℕ) (costs table : List ℕ) (f : Fi
 
   -- there is room for the misses
   pub fit-costs : 0 + length (missesRow w) ≤ length costs
-  fit-costs = omega (arith, row-long, f .costs-long)
+  fit-costs = omega (arith, row-long w, f .costs-long)
