@@ -9,6 +9,7 @@ use borrow.Author.Tests.{le-leb, lt-leb}
 use Rattle.reuse.specs.Limits.{maxReads, maxExtents}
 use Rattle.reuse.specs.Lists.{firsts}
 use Rattle.reuse.specs.Lru.{reuses}
+use Rattle.reuse.specs.Written.{wordOf}
 use Rattle.reuse_rows.specs.Rows.{padded}
 use Rattle.reuse.specs.Summary.{wellFormed, readsOf, firstOf, recentOf}
 use Rattle.reuse.proofs.Stack.{length-reuses}
@@ -18,7 +19,7 @@ use Rattle.summary_calls.specs.declared.Written.the-variants.{Words}
 use Rattle.summary_calls.specs.Calls.{wrote, refused}
 use Rattle.summary_calls.proofs.Fields.{given, shaped}
 use Rattle.summary_calls.proofs.Fields.{recent-size, recent-few}
-use Rattle.after.specs.Calls.{wordOf, afterCall}
+use Rattle.after.specs.Calls.{afterCall}
 use Rattle.after.specs.Passes.{Stacked, Traceable}
 
 -- R of a well-formed prefix, laid into a stack

@@ -10,11 +10,11 @@ use Rattle.reuse_engine.specs.declared.Place.{Place}
 use Rattle.reuse_engine.specs.declared.Place.the-variants.{Cold, Depth, Full, BadCount}
 use Rattle.reuse.specs.Limits.{maxExtents}
 use Rattle.reuse.specs.Lru.{Reuse, cold, at, depth, reuses}
+use Rattle.reuse.specs.Written.{coldBase, wordOf}
 use Rattle.reuse_engine.specs.Engine.{placeOf, leftBy}
 use Rattle.reuse.proofs.Stack.{length-reuses}
 use Rattle.reuse_engine.proofs.Engine.{place-depth, place-range, place-cold}
 use Rattle.reuse_engine.proofs.Runs.{Running, run-start, run-full, run-bad, held-fits, next-answers, turn-cold, turn-known}
-use Rattle.after.specs.Calls.{wordOf}
 use Rattle.after.specs.Passes.{Traceable}
 
 -- the first i reads are taken, and their distances written
@@ -47,6 +47,10 @@ module _ (stack : List ℕ) (n : ℕ) (reads out : List ℕ) where
         let e : i ≡ length reads = omega (arith, h .run .within) in
         h .words ∙ rw (take-all i reads l) (ap (λ (k : ℕ). map wordOf (reuses (take n stack) reads) ++ drop k out) e)
 
+    -- what is held is within the limit
+    pub held-small : held ≤ maxExtents
+    held-small = omega (arith, held-fits stack n reads row held i (h .run), h .run .long, h .given .small)
+
     module _ (l : i < length reads) where
       -- the next word put
       next-word : (x : Reuse) → depth (take held row) (getD reads i 0) ≡ x
@@ -69,16 +73,16 @@ module _ (stack : List ℕ) (n : ℕ) (reads out : List ℕ) where
       -- a distance fits a word
       pub depth-small : (d : ℕ) → placeOf row held (getD reads i 0) ≡ Depth d → d ≤ maxExtents
       depth-small d p =
-          omega (arith, place-range row held (getD reads i 0) (held-fits stack n reads row held i (h .run)) d p, held-fits stack n reads row held i (h .run), h .run .long, h .given .small)
+          omega (arith, place-range row held (getD reads i 0) (held-fits stack n reads row held i (h .run)) d p, held-small)
 
       -- the turn as the code makes it, by the engine's answer r and the words that it left
       module _ (r : Place) (left others : List ℕ) (held' : ℕ) (p : r ≡ placeOf row held (getD reads i 0)) (q : left ≡ leftBy r held (getD reads i 0) row) where
         -- a cold read
-        pub trace-cold : r ≡ Cold → others ≡ set written i 0 → held' ≡ held + 1 → Tracing stack n reads out left others held' (i + 1)
+        pub trace-cold : r ≡ Cold → others ≡ set written i (coldBase + (held + 1)) → held' ≡ held + 1 → Tracing stack n reads out left others held' (i + 1)
         trace-cold e f g = rw (f, g) (record {
           given = h .given;
           run = turn-cold stack n reads row held i (h .run) l r left p q e;
-          words = next-word cold (place-cold row held (getD reads i 0) (held-fits stack n reads row held i (h .run)) (sym p ∙ e));
+          words = rw (add-one held) (next-word (cold (suc held)) (place-cold row held (getD reads i 0) (held-fits stack n reads row held i (h .run)) (sym p ∙ e)));
         })
 
         -- a read at a distance

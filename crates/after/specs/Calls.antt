@@ -6,14 +6,10 @@ use lib.Dec.{leb}
 use lib.ListN.{length}
 use Rattle.reuse.specs.Limits.{maxReads, maxExtents}
 use Rattle.reuse.specs.Lists.{firsts}
-use Rattle.reuse.specs.Lru.{Reuse, cold, at, reuses}
+use Rattle.reuse.specs.Lru.{reuses}
+use Rattle.reuse.specs.Written.{wordOf}
 use Rattle.reuse.specs.Summary.{wellFormed, readsOf, firstOf, recentOf}
 use Rattle.summary_calls.specs.Calls.{Wrote, wrote, refused}
-
--- an answer as the distance buffer writes it: 0 for cold
-abbrev pub wordOf : Reuse → ℕ
-wordOf cold = 0
-wordOf (at d) = d
 
 -- the distances of the reads with R of the prefix as their stack: 5, 8, 9, 6
 unfoldable pub afterCall : List ℕ → List ℕ → List ℕ → Wrote

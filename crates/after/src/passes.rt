@@ -7,7 +7,7 @@ ghost use Rattle.reuse.specs.Lru.{reuses};
 ghost use Rattle.reuse_rows.specs.Rows.{padded};
 ghost use Rattle.reuse.specs.Summary.{recentOf};
 ghost use Rattle.summary_calls.specs.Shapes.{Shaped};
-ghost use Rattle.after.specs.Calls.{wordOf};
+ghost use Rattle.reuse.specs.Written.{wordOf};
 ghost use Rattle.after.specs.Passes.{Traceable};
 
 // A stack of the prefix's extents by last read, the latest on top.
@@ -21,7 +21,7 @@ pub fn recent_stack(prefix: &[u32]) -> [u32; reuse::MAX_EXTENTS]
     reuse_copies::padded(&prefix[recent..counts])
 }
 
-// The distances of the reads after the stack in the first n words, one word each.
+// The answers to the reads after the stack in the first n words, one word each.
 pub fn trace(stack: &mut [u32], n: usize, reads: &[u32], out: &mut [u32])
     requires { ⌜ Traceable (now stack) n (now reads) (now out) ⌝ }
     ensures { λ _. ⌜ now (out .exit) ≡ map wordOf (reuses (take n (now (stack .entry))) (now (reads .entry))) ++ drop (length (now (reads .entry))) (now (out .entry)) ⌝ }
@@ -33,7 +33,7 @@ pub fn trace(stack: &mut [u32], n: usize, reads: &[u32], out: &mut [u32])
         match place {
             Place::Cold => {
                 held = held + 1;
-                out[i] = 0;
+                out[i] = reuse::COLD_BASE + held as u32;
             }
             Place::Depth(d) => {
                 out[i] = d as u32;

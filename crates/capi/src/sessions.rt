@@ -12,7 +12,7 @@ pub extern "C" fn jemqolu_session_new(session: &mut [u32]) -> i64
     capi_answers::count(w)
 }
 
-// A read of the extent by the session in the words: its distance, 0 for a cold read, and how many sums it looked at.
+// A read of the extent by the session in the words: its answer as the buffer of distances writes it, and how many sums it looked at.
 #[no_mangle]
 pub extern "C" fn jemqolu_session_read(session: &mut [u32], extent: u32, sums: &mut u32) -> i64
     ensures is { λ r. ⌜ r ≡ told (readIn (now (session .entry)) extent .answer) ⌝ }

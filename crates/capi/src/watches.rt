@@ -12,12 +12,12 @@ pub extern "C" fn jemqolu_watch_new(size: u32, words: &mut [u32]) -> i64
     capi_answers::count(w)
 }
 
-// The watch in the words takes one more distance, 0 for a cold read.
+// The watch in the words takes one more answer, as the buffer of distances writes it.
 #[no_mangle]
-pub extern "C" fn jemqolu_watch_read(words: &mut [u32], distance: u32) -> i64
-    ensures { λ r. ⌜ (r ≡ noted (noteIn (now (words .entry)) distance .outcome)) × (now (words .exit) ≡ watchLeft (noteIn (now (words .entry)) distance .outcome) (noteIn (now (words .entry)) distance .watch) (now (words .entry))) ⌝ }
+pub extern "C" fn jemqolu_watch_read(words: &mut [u32], word: u32) -> i64
+    ensures { λ r. ⌜ (r ≡ noted (noteIn (now (words .entry)) word .outcome)) × (now (words .exit) ≡ watchLeft (noteIn (now (words .entry)) word .outcome) (noteIn (now (words .entry)) word .watch) (now (words .entry))) ⌝ }
 {
-    let o = watch_words::read(words, distance);
+    let o = watch_words::read(words, word);
     capi_answers::outcome(o)
 }
 

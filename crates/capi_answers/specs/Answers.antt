@@ -2,6 +2,8 @@
 use Prim.Native.Nat.{ℕ, _≤_, min}
 use lib.IntN.{ℤ, pos, negℤ}
 use lib.Ieee.{Float}
+use Rattle.reuse.specs.Lru.{cold, at}
+use Rattle.reuse.specs.Written.{wordOf}
 use Rattle.summary_calls.specs.declared.Written.{Written}
 use Rattle.summary_calls.specs.declared.Written.the-variants.{Words, Refused}
 use Rattle.summary_calls.specs.declared.MissCount.{MissCount}
@@ -42,15 +44,15 @@ shareLeft (Answered (Share x)) was = x
 shareLeft (Answered NoReads) was = was
 shareLeft (NoShare n) was = was
 
--- a read's distance, 0 for a cold read, or the refusal
+-- a read's answer as the buffer of distances writes it, or the refusal
 abbrev pub told : Answer → ℤ
-told Cold = pos 0
-told (Distance d n) = pos d
+told (Cold n) = pos (wordOf (cold n))
+told (Distance d n) = pos (wordOf (at d))
 told (NoRead n) = negative n
 
 -- what stands in the place of the sums read: their number, 0 for a cold read; a refusal leaves what stood there
 abbrev pub sumsLeft : Answer → ℕ → ℕ
-sumsLeft Cold was = 0
+sumsLeft (Cold n) was = 0
 sumsLeft (Distance d n) was = n
 sumsLeft (NoRead n) was = was
 

@@ -67,14 +67,14 @@ pub fn share(s: ShareAnswer, place: &mut f64) -> i64
     }
 }
 
-// The distance, 0 for a cold read, or the refusal; the sums read are left in their place.
+// A read's answer as the buffer of distances writes it, or the refusal; the sums read are left in their place.
 pub fn read(a: Answer, sums: &mut u32) -> i64
     ensures { λ r. ⌜ (r ≡ told a) × (now (sums .exit) ≡ sumsLeft a (now (sums .entry))) ⌝ }
 {
     match a {
-        Answer::Cold => {
+        Answer::Cold { number } => {
             *sums = 0;
-            0
+            (reuse::COLD_BASE as u64 + number as u64) as i64
         }
         Answer::Distance {
             distance,

@@ -17,10 +17,10 @@ use Rattle.reuse_engine.specs.Engine.{placeOf, leftBy}
 use Rattle.reuse_engine.specs.declared.Place.{Place}
 use Rattle.reuse_engine.specs.declared.Place.the-variants.{Cold, Depth, Full, BadCount}
 use Rattle.reuse.proofs.Lists.{by-test}
-use Rattle.reuse.proofs.Depth.{depth-absent, cold-absent}
+use Rattle.reuse.proofs.Depth.{depth-absent}
 use Rattle.reuse.proofs.Stack.{distinct-touch}
 use Rattle.reuse.proofs.Sums.{sum-more, at-le-sum}
-use Rattle.reuse_engine.proofs.Engine.{place-depth, place-range, place-cold, place-room, place-full, place-counts, touched-known, touched-new}
+use Rattle.reuse_engine.proofs.Engine.{place-depth, place-range, place-new, place-cold, place-room, place-full, place-counts, touched-known, touched-new}
 use Rattle.texts.specs.Limits.{maxExtent}
 use Rattle.texts.specs.Lines.{to, no, unless}
 use Rattle.texts.specs.Logs.{row, read, rowBy}
@@ -90,7 +90,7 @@ module _ (reads extents : ℕ) (stack counts : List ℕ) (g : Tallied reads exte
       unfolding unless
       row-full e =
           let p = place-full stack extents x fits e in
-          by-limit 9 (rw (le-ltb maxExtent x small, lt-leb maxReads reads room, cold-absent x (take extents stack) (p .1), le-leb maxExtents (length (take extents stack)) (omega (arith, stacked, p .0, g .stack-wide))))
+          by-limit 9 (rw (le-ltb maxExtent x small, lt-leb maxReads reads room, p .1, le-leb maxExtents (length (take extents stack)) (omega (arith, stacked, p .0, g .stack-wide))))
 
       -- a new extent
       module _ (e : placeOf stack extents x ≡ Cold) where
@@ -123,7 +123,7 @@ module _ (reads extents : ℕ) (stack counts : List ℕ) (g : Tallied reads exte
         row-new : to (read ends (tallyIn (reads + 1) (extents + 1) stack-new counts-new)) ≡ takeRow before (row x ends)
         unfolding unless
         row-new =
-            sym (by-limit 0 (rw (le-ltb maxExtent x small, lt-leb maxReads reads room, cold-absent x (take extents stack) (place-cold stack extents x fits e), lt-leb maxExtents (length (take extents stack)) (omega (arith, stacked, new-room))))
+            sym (by-limit 0 (rw (le-ltb maxExtent x small, lt-leb maxReads reads room, place-new stack extents x fits e, lt-leb maxExtents (length (take extents stack)) (omega (arith, stacked, new-room))))
             ∙ ap (λ (t : Tally). to (read ends t)) new-tally)
 
         -- and the rows hold a tally

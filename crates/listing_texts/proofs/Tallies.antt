@@ -17,7 +17,8 @@ use Rattle.reuse.proofs.Depth.{depth-absent, depth-present, length-before}
 use Rattle.reuse.proofs.Counts.{count-snoc}
 use Rattle.reuse.proofs.Words.{length-histogram}
 use Rattle.reuse.proofs.Join.{histogram-at}
-use Rattle.reuse.proofs.Misses.{above-count, cold-count}
+use Rattle.reuse.proofs.Misses.{above-count}
+use Rattle.reuse.proofs.Newcomers.{cold-count}
 use Rattle.listing_texts.specs.Tallies.{noReads, countedWith, tallied, overTally, missesBy, tallyOf}
 use Rattle.texts.specs.Logs.{overRead}
 
@@ -50,8 +51,8 @@ counts-cold t x m =
     (simp (length-append, length-histogram, firsts-new x t m))
     (λ i l. getD-pad (histogram t) i
     ∙ histogram-place t i
-    ∙ sym (count-snoc (reuses [] t) cold (suc i))
-    ∙ sym (place-more t x cold (depth-absent x (stack t) (mem-stack x t ∙ m)) i))
+    ∙ sym (count-snoc (reuses [] t) (cold (suc (length (stack t)))) (suc i))
+    ∙ sym (place-more t x (cold (suc (length (stack t)))) (depth-absent x (stack t) (mem-stack x t ∙ m)) i))
 
 -- a read at the place e: the count there grows by one
 counts-at : (t : List ℕ) (x e : ℕ) → mem x t ≡ true → depth (stack t) x ≡ at (suc e) → e < length (firsts t)

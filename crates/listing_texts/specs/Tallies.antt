@@ -22,7 +22,7 @@ noReads = record { reads = 0; recent = []; counts = [] }
 
 -- the counts with one answer more: a cold read makes one distance more possible, which no read has yet
 abbrev pub countedWith : Reuse → List ℕ → List ℕ
-countedWith cold counts = counts ++ (0 ∷ [])
+countedWith (cold n) counts = counts ++ (0 ∷ [])
 countedWith (at d) counts = set counts (pred d) (suc (getD counts (pred d) 0))
 
 -- one read more

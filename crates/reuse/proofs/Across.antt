@@ -38,20 +38,24 @@ finite-range s (x ∷ t) d u h =
 
 -- the depth, after the reads a, of an extent that is not one of them
 pub depth-new : (x : ℕ) (s a : List ℕ) → mem x a ≡ false
-    → depth (foldl touch s a) x ≡ cond (mem x s) (at (suc (length (firsts a) + length (outside a (before x s))))) cold
+    → depth (foldl touch s a) x
+    ≡ cond (mem x s) (at (suc (length (firsts a) + length (outside a (before x s))))) (cold (suc (length (firsts a) + length (outside a s))))
 depth-new x s a h =
     rw (stack-over s a)
     (depth-under x (stack a) (outside a s) (simp (mem-stack, h))
     ∙ simp (mem-outside, h, length-stack, before-outside))
 
--- the same by counting the different extents before it in the stack or among the reads
+-- the different extents of a stack and of the reads after it
+pub both-different : (s a : List ℕ) → distinct s ≡ true → length (firsts (s ++ a)) ≡ length (firsts a) + length (outside a s)
+both-different s a d =
+    sym (length-stack (s ++ a))
+    ∙ simp (stack-append, stack-law, cleanup-distinct s d, outside-reverse, length-append, length-reverse, length-cleanup)
+
+-- the same by counting the different extents before it in the stack or among the reads, or all of both
 pub depth-across : (x : ℕ) (s a : List ℕ) → distinct s ≡ true → mem x a ≡ false
-    → depth (foldl touch s a) x ≡ cond (mem x s) (at (suc (length (firsts (before x s ++ a))))) cold
+    → depth (foldl touch s a) x ≡ cond (mem x s) (at (suc (length (firsts (before x s ++ a))))) (cold (suc (length (firsts (s ++ a)))))
 depth-across x s a d h =
-    depth-new x s a h
-    ∙ ap (λ (n : ℕ). cond (mem x s) (at (suc n)) cold)
-    (sym (sym (length-stack (before x s ++ a))
-    ∙ simp (stack-append, stack-law, cleanup-distinct (before x s) (distinct-before x s d), outside-reverse, length-append, length-reverse, length-cleanup)))
+    depth-new x s a h ∙ sym (simp (both-different (before x s) a (distinct-before x s d), both-different s a d))
 
 -- the distance of the first read of p, where r is the stack before and f has the first reads
 unfoldable pub acrossOf : List ℕ → List ℕ → ℕ → ℕ
@@ -59,11 +63,11 @@ acrossOf r f p = suc (length (firsts (before p r ++ before p f)))
 
 -- the answer to that read
 unfoldable answerOf : List ℕ → List ℕ → ℕ → Reuse
-answerOf r f x = cond (mem x r) (at (acrossOf r f x)) cold
+answerOf r f x = cond (mem x r) (at (acrossOf r f x)) (cold (suc (length (firsts (r ++ before x f)))))
 
 -- that answer at the place of x in f
 answer-at : (r f p q : List ℕ) (x : ℕ) → p ++ (x ∷ q) ≡ f → mem x p ≡ false
-    → answerOf r f x ≡ cond (mem x r) (at (suc (length (firsts (before x r ++ p))))) cold
+    → answerOf r f x ≡ cond (mem x r) (at (suc (length (firsts (before x r ++ p))))) (cold (suc (length (firsts (r ++ p)))))
 unfolding answerOf acrossOf before
 answer-at r f p q x h n = simp (← h, before-append, n, eqb-same, append-nil)
 
@@ -97,7 +101,7 @@ pub depth-firsts : (x : ℕ) (s a : List ℕ) → mem x a ≡ false → depth (f
 depth-firsts x s a h =
     depth-new x s a h
     ∙ sym (depth-new x s (firsts a) (simp (mem-firsts, h))
-    ∙ simp (firsts-distinct (firsts a) (distinct-firsts a), outside-same (firsts a) a (before x s) (λ z. mem-firsts z a)))
+    ∙ simp (firsts-distinct (firsts a) (distinct-firsts a), outside-same (firsts a) a (before x s) (λ z. mem-firsts z a), outside-same (firsts a) a s (λ z. mem-firsts z a)))
 
 -- of the first reads of x ∷ b, x is none outside a if a has it
 new-known : (x : ℕ) (a b : List ℕ) → mem x a ≡ true → outside a (firsts (x ∷ b)) ≡ outside a (firsts b)
@@ -138,7 +142,7 @@ split-from s a (x ∷ b) d =
       arith,
       simp (firsts-new x a m, foldl-append) at ih,
       count-cons (depth old x) (reuses (touch (foldl touch s a) x) b) d,
-      count-cold (reuses (touch (stack a) x) b) d,
+      count-cold (suc (length (stack a))) (reuses (touch (stack a) x) b) d,
       count-cons (depth old x) (reuses (touch old x) new) d,
     )))
 

@@ -26,14 +26,14 @@ within-depth zero (y ∷ s) x = by-test (eqb x y) (λ e. simp e) (λ e. simp e (
   where
     -- no deeper answer is within 0
     none : (r : Reuse) → within 0 (deeper r) ≡ false
-    none cold = refl
+    none (cold n) = refl
     none (at d) = leb·suc-zero d
 within-depth (suc c) (y ∷ s) x =
     by-test (eqb x y) (λ e. simp e (leb·suc-suc 0 c ∙ leb·zero c)) (λ e. simp e (less (depth s x) ∙ within-depth c s x))
   where
     -- one place deeper, one size larger
     less : (r : Reuse) → within (suc c) (deeper r) ≡ within c r
-    less cold = refl
+    less (cold n) = refl
     less (at d) = leb·suc-suc d c
 
 -- a member was read

@@ -41,21 +41,21 @@ count-le p (x ∷ l) = let i : count p l ≤ length l = count-le p l in by-test 
 -- the distances among answers, in order
 unfoldable pub finite : List Reuse → List ℕ
 finite [] = []
-finite (cold ∷ rs) = finite rs
+finite (cold n ∷ rs) = finite rs
 finite (at d ∷ rs) = d ∷ finite rs
 
 -- to count a distance among answers is to count it among the distances
 pub count-finite : (rs : List Reuse) (d : ℕ) → countAt rs d ≡ count (eqb d) (finite rs)
 unfolding countAt count finite
 count-finite [] d = refl
-count-finite (cold ∷ rs) d = count-finite rs d
+count-finite (cold n ∷ rs) d = count-finite rs d
 count-finite (at e ∷ rs) d = simp (count-finite rs d)
 
 -- so it is with those above c
 pub above-finite : (rs : List Reuse) (c : ℕ) → count (isAbove c) rs ≡ count (ltb c) (finite rs)
 unfolding count finite
 above-finite [] c = refl
-above-finite (cold ∷ rs) c = above-finite rs c
+above-finite (cold n ∷ rs) c = above-finite rs c
 above-finite (at e ∷ rs) c = simp (above-finite rs c)
 
 -- the count of a distance among answers, by the first and the rest
@@ -70,9 +70,9 @@ count-snoc rs r d =
     count-append (isAt d) rs (r ∷ []) ∙ unfold count in by-test (isAt d r) (λ e. simp e (omega arith)) (λ e. simp e (omega arith))
 
 -- a cold answer counts for no distance
-pub count-cold : (rs : List Reuse) (d : ℕ) → countAt (cold ∷ rs) d ≡ countAt rs d
+pub count-cold : (n : ℕ) (rs : List Reuse) (d : ℕ) → countAt (cold n ∷ rs) d ≡ countAt rs d
 unfolding countAt count
-count-cold rs d = refl
+count-cold n rs d = refl
 
 -- the sum of two tables added
 pub sum-add : (f g : ℕ → ℕ) (l : List ℕ) → sum (map (λ d. f d + g d) l) ≡ sum (map f l) + sum (map g l)

@@ -4,19 +4,19 @@ use Prim.Native.Nat.{ℕ, suc, _+_, _≤_, _<_}
 use native.Mathlib.Omega.{arith}
 use native.Mathlib.Nat.{add-zero}
 use mathlib.Core.List.{List, [], _∷_, _++_}
-use mathlib.Core.Bool.{true, false, cond, or-true}
+use mathlib.Core.Bool.{true, false, cond}
 use lib.Dec.{eqb}
 use lib.ListN.{length, take, drop, getD, length-append}
 use lib.Seq.{split-at, length-take-le}
 use borrow.Author.Tests.{eqb-true}
 use Rattle.reuse.specs.Lists.{mem, firsts, before, distinct, outside}
-use Rattle.reuse.specs.Lru.{Reuse, cold, at, depth, stack, reuses, since, distance, distances}
+use Rattle.reuse.specs.Lru.{Reuse, cold, at, depth, stack, reuses, since, distance, distances, isCold}
 use Rattle.reuse.proofs.Lists.{by-test, clash, eqb-same, mem-append, mem-firsts, remove-absent}
 use Rattle.reuse.proofs.Distinct.{distinct-head, distinct-tail, distinct-cons}
 use Rattle.reuse.proofs.Stack.{stack-cons, stack-snoc, mem-stack, length-stack}
 
--- the depth of a member is one more than those before it
-pub depth-before : (s : List ℕ) (x : ℕ) → depth s x ≡ cond (mem x s) (at (suc (length (before x s)))) cold
+-- the depth of a member is one more than those before it; what is no member is cold with one more than all
+pub depth-before : (s : List ℕ) (x : ℕ) → depth s x ≡ cond (mem x s) (at (suc (length (before x s)))) (cold (suc (length s)))
 unfolding depth before mem
 depth-before [] x = refl
 depth-before (y ∷ s) x =
@@ -80,11 +80,11 @@ depth-top x a b h = simp (depth-before, mem-append, before-append, h)
 
 -- the depth of what is in the lower one alone
 pub depth-under : (x : ℕ) (a b : List ℕ) → mem x a ≡ false
-    → depth (a ++ b) x ≡ cond (mem x b) (at (suc (length a + length (before x b)))) cold
+    → depth (a ++ b) x ≡ cond (mem x b) (at (suc (length a + length (before x b)))) (cold (suc (length a + length b)))
 depth-under x a b h = simp (depth-before, mem-append, before-append, h, length-append)
 
--- what is not in the stack is cold
-pub depth-absent : (x : ℕ) (s : List ℕ) → mem x s ≡ false → depth s x ≡ cold
+-- what is not in the stack is cold, with one more than the stack has
+pub depth-absent : (x : ℕ) (s : List ℕ) → mem x s ≡ false → depth s x ≡ cold (suc (length s))
 depth-absent x s h = simp (depth-before, h)
 
 -- what is in the stack is below those before it
@@ -97,11 +97,8 @@ unfolding mem before
 depth-last x a h = depth-under x a (x ∷ []) h ∙ simp (eqb-same, add-zero)
 
 -- what is cold is not in the stack
-pub cold-absent : (x : ℕ) (s : List ℕ) → depth s x ≡ cold → mem x s ≡ false
-cold-absent x s h =
-    by-test (mem x s)
-    (λ m. let e : at (suc (length (before x s))) ≡ cold = sym (depth-present x s m) ∙ h in let z : _≡_ {A = ℕ} 0 1 = cc in absurd (omega arith))
-    (λ m. m)
+pub cold-absent : (x : ℕ) (s : List ℕ) → isCold (depth s x) ≡ true → mem x s ≡ false
+cold-absent x s h = by-test (mem x s) (λ m. clash h (ap isCold (depth-present x s m))) (λ m. m)
 
 -- a distance lies between 1 and the length of the stack
 pub depth-within : (x : ℕ) (s : List ℕ) (d : ℕ) → depth s x ≡ at d → (1 ≤ d) × (d ≤ length s)
@@ -110,7 +107,7 @@ depth-within x s d h =
     (λ m. let e : at d ≡ at (suc (length (before x s))) = sym h ∙ depth-present x s m in
     let f : d ≡ suc (length (before x s)) = cc in
     (omega arith, omega (arith, length-before x s m)))
-    (λ m. let e : cold ≡ at d = sym (depth-absent x s m) ∙ h in let z : _≡_ {A = ℕ} 0 1 = cc in absurd (omega arith))
+    (λ m. let e : cold (suc (length s)) ≡ at d = sym (depth-absent x s m) ∙ h in let z : _≡_ {A = ℕ} 0 1 = cc in absurd (omega arith))
 
 -- the depth of the first x of a list
 pub depth-at : (x : ℕ) (s : List ℕ) (i : ℕ) → i < length s → mem x (take i s) ≡ false → getD s i 0 ≡ x → depth s x ≡ at (suc i)
@@ -121,19 +118,27 @@ depth-at x s i l m e =
     (depth-under x (take i s) (x ∷ drop (suc i) s) m
     ∙ simp (eqb-same, length-take-le i s (omega arith)) (ap (λ (k : ℕ). at (suc k)) (omega arith)))
 
--- the place in the stack is the number of different extents since the last read, counted on the trace
-pub distance-law : (t : List ℕ) (x : ℕ) → depth (stack t) x ≡ distance t x
-unfolding distance since mem outside firsts
-distance-law [] x = unfold stack depth in refl
-distance-law (y ∷ t) x =
+-- the place in the stack of what was read is the number of different extents since its last read, counted on the trace
+place-law : (t : List ℕ) (x : ℕ) → mem x t ≡ true → depth (stack t) x ≡ at (length (firsts (since x t)))
+unfolding since mem outside firsts
+place-law [] x h = clash h refl
+place-law (y ∷ t) x h =
     rw (stack-cons y t)
     (by-test (mem x t)
-    (λ m. depth-top x (stack t) (outside t (y ∷ [])) (simp (mem-stack, m)) ∙ distance-law t x ∙ simp (m, or-true))
+    (λ m. depth-top x (stack t) (outside t (y ∷ [])) (simp (mem-stack, m)) ∙ place-law t x m ∙ simp m)
     (λ m. depth-under x (stack t) (outside t (y ∷ [])) (simp (mem-stack, m))
     ∙ by-test (eqb x y)
     (λ e. let n : mem y t ≡ false = rw (eqb-true x y e) at m in
     simp (m, e, n, remove-absent y (firsts t) (simp (mem-firsts, n)), length-stack) (unfold before in simp (e, add-zero)))
-    (λ e. by-test (mem y t) (λ f. simp (f, m, e)) (λ f. simp (f, m, e)))))
+    (λ e. clash h (simp (e, m)))))
+
+-- the stack's answer to a read of x is the one counted on the trace: its distance, or its number among the newcomers
+pub distance-law : (t : List ℕ) (x : ℕ) → depth (stack t) x ≡ distance t x
+unfolding distance
+distance-law t x =
+    by-test (mem x t)
+    (λ m. place-law t x m ∙ simp m)
+    (λ m. depth-absent x (stack t) (mem-stack x t ∙ m) ∙ simp (m, length-stack))
 
 -- so it is with all further reads after the reads `seen`
 pub distances-from : (seen t : List ℕ) → reuses (stack seen) t ≡ distances seen t

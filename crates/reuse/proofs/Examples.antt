@@ -13,12 +13,12 @@ abbrev trace : List ℕ
 trace = 1 ∷ 2 ∷ 2 ∷ 3 ∷ 2 ∷ 1 ∷ 4 ∷ 3 ∷ 1 ∷ 1 ∷ []
 
 -- figure 1.3: its stack distances
-pub figure-distances : reuses [] trace ≡ cold ∷ cold ∷ at 1 ∷ cold ∷ at 2 ∷ at 3 ∷ cold ∷ at 4 ∷ at 3 ∷ at 1 ∷ []
+pub figure-distances : reuses [] trace ≡ cold 1 ∷ cold 2 ∷ at 1 ∷ cold 3 ∷ at 2 ∷ at 3 ∷ cold 4 ∷ at 4 ∷ at 3 ∷ at 1 ∷ []
 unfolding reuses depth touch remove
 figure-distances = refl
 
 -- the same, counted on the trace
-pub figure-counted : distances [] trace ≡ cold ∷ cold ∷ at 1 ∷ cold ∷ at 2 ∷ at 3 ∷ cold ∷ at 4 ∷ at 3 ∷ at 1 ∷ []
+pub figure-counted : distances [] trace ≡ cold 1 ∷ cold 2 ∷ at 1 ∷ cold 3 ∷ at 2 ∷ at 3 ∷ cold 4 ∷ at 4 ∷ at 3 ∷ at 1 ∷ []
 unfolding distances distance since firsts remove mem
 figure-counted = refl
 

@@ -11,6 +11,7 @@ pub mod Words
 pub mod Join
 pub mod Monoid
 pub mod Formed
+pub mod Newcomers
 pub mod Misses
 pub mod Traces
 pub mod Examples

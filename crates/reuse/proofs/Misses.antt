@@ -2,29 +2,29 @@
 use mathlib.Core.Path.{_≡_, refl, sym, ap, _∙_, fun-ext}
 use Prim.Native.Nat.{ℕ, suc, _+_, _-_}
 use native.Mathlib.Omega.{arith}
-use mathlib.Core.List.{List, [], _∷_, _++_, map, append-nil, append-assoc}
+use mathlib.Core.List.{List, [], _∷_, map}
 use mathlib.Core.Bool.{true, false, not}
 use lib.Dec.{leb, ltb}
-use lib.ListN.{length, drop, length-append}
+use lib.ListN.{length, drop}
 use borrow.Author.Tests.{leb-true, leb-false, lt-ltb, le-ltb}
-use Rattle.reuse.specs.Lists.{mem, firsts, from, sum, count}
-use Rattle.reuse.specs.Lru.{Reuse, cold, at, touch, stack, reuses, isCold, isAbove, within, countAt, missesAt}
+use Rattle.reuse.specs.Lists.{firsts, from, sum, count}
+use Rattle.reuse.specs.Lru.{Reuse, cold, at, reuses, isCold, isAbove, within, countAt, missesAt}
 use Rattle.reuse.specs.Cache.{cacheMisses, hitCount}
 use Rattle.reuse.specs.Summary.{histogram, summaryOf, readsOf, countsOf, hitsOf, missesOf}
-use Rattle.reuse.proofs.Lists.{by-test, firsts-known, firsts-new}
-use Rattle.reuse.proofs.Stack.{length-reuses, stack-snoc, mem-stack}
-use Rattle.reuse.proofs.Depth.{depth-absent, depth-present}
+use Rattle.reuse.proofs.Lists.{by-test}
+use Rattle.reuse.proofs.Stack.{length-reuses}
 use Rattle.reuse.proofs.Cache.{cache-law}
 use Rattle.reuse.proofs.Counts.{finite, count-finite, above-finite, sum-counts, sum-split, drop-from}
 use Rattle.reuse.proofs.Words.{reads-summary, extents-summary, counts-summary}
 use Rattle.reuse.proofs.Join.{reuse-range}
 use Rattle.reuse.proofs.Formed.{Formed}
+use Rattle.reuse.proofs.Newcomers.{cold-count}
 
 -- answers that are no hits at size c are cold, or distances above c
 misses-count : (c : ℕ) (rs : List Reuse) → count not (map (within c) rs) ≡ missesAt c rs
 unfolding count missesAt
 misses-count c [] = refl
-misses-count c (cold ∷ rs) = let i : count not (map (within c) rs) ≡ count isCold rs + count (isAbove c) rs = misses-count c rs in omega arith
+misses-count c (cold n ∷ rs) = let i : count not (map (within c) rs) ≡ count isCold rs + count (isAbove c) rs = misses-count c rs in omega arith
 misses-count c (at d ∷ rs) =
     let i : count not (map (within c) rs) ≡ count isCold rs + count (isAbove c) rs = misses-count c rs in
     by-test (leb d c)
@@ -35,7 +35,7 @@ misses-count c (at d ∷ rs) =
 pub within-misses : (c : ℕ) (rs : List Reuse) → count (within c) rs + missesAt c rs ≡ length rs
 unfolding count missesAt
 within-misses c [] = refl
-within-misses c (cold ∷ rs) = let i : count (within c) rs + (count isCold rs + count (isAbove c) rs) ≡ length rs = within-misses c rs in omega arith
+within-misses c (cold n ∷ rs) = let i : count (within c) rs + (count isCold rs + count (isAbove c) rs) ≡ length rs = within-misses c rs in omega arith
 within-misses c (at d ∷ rs) =
     let i : count (within c) rs + (count isCold rs + count (isAbove c) rs) ≡ length rs = within-misses c rs in
     by-test (leb d c)
@@ -57,21 +57,6 @@ held-count c (r ∷ rs) = by-test (within c r) (λ e. simp (e, held-count c rs))
 pub cache-hits : (c : ℕ) (t : List ℕ) → hitCount c t ≡ count (within c) (reuses [] t)
 unfolding hitCount
 cache-hits c t = rw (cache-law c t) (held-count c (reuses [] t))
-
--- cold reads after the reads a: the extents that are new
-cold-from : (a b : List ℕ) → length (firsts a) + count isCold (reuses (stack a) b) ≡ length (firsts (a ++ b))
-unfolding reuses count
-cold-from a [] = rw (append-nil a) (omega arith)
-cold-from a (x ∷ b) =
-    let i : length (firsts (a ++ (x ∷ []))) + count isCold (reuses (touch (stack a) x) b) ≡ length (firsts (a ++ (x ∷ b))) =
-    rw (stack-snoc a x, append-assoc a (x ∷ []) b) at (cold-from (a ++ (x ∷ [])) b) in
-    by-test (mem x a)
-    (λ m. simp (depth-present x (stack a) (mem-stack x a ∙ m)) (rw (firsts-known x a m) at i))
-    (λ m. simp (depth-absent x (stack a) (mem-stack x a ∙ m)) (omega (arith, simp (firsts-new x a m, length-append) at i)))
-
--- the cold reads of a trace are as many as its different extents
-pub cold-count : (t : List ℕ) → count isCold (reuses [] t) ≡ length (firsts t)
-cold-count t = let i : 0 + count isCold (reuses [] t) ≡ length (firsts t) = unfold firsts stack in cold-from [] t in omega arith
 
 -- the words of H for distances above c add up to the reads of such distances
 pub above-count : (c : ℕ) (t : List ℕ) → sum (drop c (histogram t)) ≡ count (isAbove c) (reuses [] t)

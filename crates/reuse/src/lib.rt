@@ -12,6 +12,8 @@ pub const SLOTS: usize = 512;
 pub const SUMS: usize = 1023;
 // The levels of that tree above its leaves.
 pub const LEVELS: u32 = 9;
+// A cold read is written as this plus its number.
+pub const COLD_BASE: u32 = 65536;
 // The largest store that is split among customers.
 pub const MAX_STORE: usize = 1024;
 // The most customers of one store.

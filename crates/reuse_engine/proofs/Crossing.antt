@@ -61,10 +61,10 @@ module _ (stack : List ℕ) (n : ℕ) (reads hist : List ℕ) where
     -- a cold read counts for no distance
     counted-cold : placeOf row held (getD reads i 0) ≡ Cold → Counted hist (reuses (take n stack) (take (i + 1) reads)) counts
     counted-cold p =
-        let e : depth (take held row) (getD reads i 0) ≡ cold = place-cold row held (getD reads i 0) (held-fits stack n reads row held i (h .run)) p in
+        let e : depth (take held row) (getD reads i 0) ≡ cold (suc held) = place-cold row held (getD reads i 0) (held-fits stack n reads row held i (h .run)) p in
         record {
           size = h .counted .size;
-          each = λ j k. rw (next-answers stack n reads row held i (h .run) l, e, count-snoc (reuses (take n stack) (take i reads)) cold (suc j)) (h .counted .each j k);
+          each = λ j k. rw (next-answers stack n reads row held i (h .run) l, e, count-snoc (reuses (take n stack) (take i reads)) (cold (suc held)) (suc j)) (h .counted .each j k);
         }
 
     -- a read at a distance: its place among the counts

@@ -10,44 +10,44 @@ use lib.Seq.{length-take-le, take-at, take-nil, drop-append-add, drop-drop}
 use borrow.Author.Tests.{eqb-true, ltb-true, ltb-false, leb-false}
 use Rattle.reuse_engine.specs.declared.Place.{Place}
 use Rattle.reuse_engine.specs.declared.Place.the-variants.{Cold, Depth, Full, BadCount}
-use Rattle.reuse.specs.Lists.{remove, distinct}
-use Rattle.reuse.specs.Lru.{Reuse, cold, at, deeper, depth, touch}
+use Rattle.reuse.specs.Lists.{mem, remove, distinct}
+use Rattle.reuse.specs.Lru.{Reuse, cold, at, deeper, depth, touch, isCold}
 use Rattle.reuse_engine.specs.Engine.{placeAt, placeOf, lifted, leftBy, heldAfter}
 use Rattle.reuse.proofs.Lists.{by-test, remove-absent}
 use Rattle.reuse.proofs.Distinct.{distinct-head, distinct-tail}
-use Rattle.reuse.proofs.Depth.{cold-absent, depth-within}
+use Rattle.reuse.proofs.Depth.{depth-absent, cold-absent, depth-within}
 
 -- a depth, where the answer is one
 from-depth : (d : ℕ) (b c : Bool) (r : Reuse) → cond b (placeAt r c) BadCount ≡ Depth d → r ≡ at d
 from-depth d true c (at e) h = cc
-from-depth d true true cold h = cc
-from-depth d true false cold h = cc
+from-depth d true true (cold k) h = cc
+from-depth d true false (cold k) h = cc
 from-depth d false c r h = cc
 
 -- no place, and room
-from-cold : (b c : Bool) (r : Reuse) → cond b (placeAt r c) BadCount ≡ Cold → (c ≡ true) × (r ≡ cold)
+from-cold : (b c : Bool) (r : Reuse) → cond b (placeAt r c) BadCount ≡ Cold → (c ≡ true) × (isCold r ≡ true)
 from-cold true c (at e) h = (cc, cc)
-from-cold true true cold h = (refl, refl)
-from-cold true false cold h = (cc, cc)
+from-cold true true (cold k) h = (refl, refl)
+from-cold true false (cold k) h = (cc, refl)
 from-cold false c r h = (cc, cc)
 
 -- no place, and no room
-from-full : (b c : Bool) (r : Reuse) → cond b (placeAt r c) BadCount ≡ Full → (c ≡ false) × (r ≡ cold)
+from-full : (b c : Bool) (r : Reuse) → cond b (placeAt r c) BadCount ≡ Full → (c ≡ false) × (isCold r ≡ true)
 from-full true c (at e) h = (cc, cc)
-from-full true true cold h = (cc, cc)
-from-full true false cold h = (refl, refl)
+from-full true true (cold k) h = (cc, refl)
+from-full true false (cold k) h = (refl, refl)
 from-full false c r h = (cc, cc)
 
 -- too few words
 from-bad : (b c : Bool) (r : Reuse) → cond b (placeAt r c) BadCount ≡ BadCount → b ≡ false
 from-bad true c (at e) h = cc
-from-bad true true cold h = cc
-from-bad true false cold h = cc
+from-bad true true (cold k) h = cc
+from-bad true false (cold k) h = cc
 from-bad false c r h = refl
 
 -- one place less deep
 undeep : (r : Reuse) (k : ℕ) → deeper r ≡ at (suc k) → r ≡ at k
-undeep cold k h = cc
+undeep (cold n) k h = cc
 undeep (at e) k h = cc
 
 -- a member's depth leaves out its one place
@@ -141,10 +141,14 @@ module _ (a : List ℕ) (n x : ℕ) (fits : n ≤ length a) where
 
   -- an extent that is not held, and room for it
   module _ (h : placeOf a n x ≡ Cold) where
-    -- it has no depth
-    pub place-cold : depth (take n a) x ≡ cold
+    -- the stack does not have it
+    pub place-new : mem x (take n a) ≡ false
     unfolding placeOf
-    place-cold = from-cold (leb n (length a)) (ltb n (length a)) (depth (take n a) x) h .1
+    place-new = cold-absent x (take n a) (from-cold (leb n (length a)) (ltb n (length a)) (depth (take n a) x) h .1)
+
+    -- it is cold, with one more than the n extents held
+    pub place-cold : depth (take n a) x ≡ cold (suc n)
+    place-cold = depth-absent x (take n a) place-new ∙ ap (λ (k : ℕ). cold (suc k)) (length-take-le n a fits)
 
     -- there is room
     pub place-room : n < length a
@@ -156,16 +160,16 @@ module _ (a : List ℕ) (n x : ℕ) (fits : n ≤ length a) where
       size = lifted-length (suc n) x a (omega (arith, place-room));
       front = unfold lifted touch in
           ap {B = List ℕ} (λ l. x ∷ l)
-          (take-at (take n a) (drop (suc n) a) n (length-take-le n a fits) ∙ sym (remove-absent x (take n a) (cold-absent x (take n a) place-cold)));
+          (take-at (take n a) (drop (suc n) a) n (length-take-le n a fits) ∙ sym (remove-absent x (take n a) place-new));
       rest = lifted-rest (suc n) x a (suc n) (omega arith) (omega (arith, place-room));
     }
 
   -- an extent that is not held, and no room for it
-  pub place-full : placeOf a n x ≡ Full → (length a ≤ n) × (depth (take n a) x ≡ cold)
+  pub place-full : placeOf a n x ≡ Full → (length a ≤ n) × (mem x (take n a) ≡ false)
   unfolding placeOf
   place-full h =
       let r = from-full (leb n (length a)) (ltb n (length a)) (depth (take n a) x) h in
-      (ltb-false n (length a) (r .0), r .1)
+      (ltb-false n (length a) (r .0), cold-absent x (take n a) (r .1))
 
   -- the count is no larger than the slice
   pub place-counts : placeOf a n x ≡ BadCount → ⊥

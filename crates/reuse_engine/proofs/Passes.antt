@@ -207,7 +207,7 @@ module _ (s : List ℕ) (x n : ℕ) where
     sink-lifted l = rw (add-one i) (shift-set s x row carry i (h .shift) (omega (arith, h .fits)))
 
     -- x is not among the n
-    pub sink-absent : n ≤ i → depth (take n s) x ≡ cold
+    pub sink-absent : n ≤ i → depth (take n s) x ≡ cold (suc (length (take n s)))
     sink-absent l = let e : i ≡ n = omega (arith, h .below) in depth-absent x (take n s) (rw e at (h .passed))
 
     -- it is new

@@ -4,19 +4,18 @@ use Prim.Native.Nat.{ℕ, suc, _+_, _≤_, _<_}
 use native.Mathlib.Omega.{arith}
 use native.Mathlib.Numerals.{add-one}
 use mathlib.Core.List.{List, [], _∷_, _++_, foldl, foldl-append}
-use mathlib.Core.Bool.{true}
+use mathlib.Core.Bool.{true, false}
 use lib.ListN.{length, take, drop, getD, length-take, take-append-drop}
 use lib.Seq.{take-suc, take-all, length-take-le}
 use Rattle.reuse_engine.specs.declared.Place.{Place}
 use Rattle.reuse_engine.specs.declared.Place.the-variants.{Cold, Depth, Full, BadCount}
-use Rattle.reuse.specs.Lists.{distinct}
-use Rattle.reuse.specs.Lru.{cold, at, depth, touch, reuses}
+use Rattle.reuse.specs.Lists.{mem, distinct}
+use Rattle.reuse.specs.Lru.{at, depth, touch, reuses}
 use Rattle.reuse_engine.specs.Engine.{placeOf, lifted, leftBy}
 use Rattle.reuse.proofs.Lists.{remove-absent}
 use Rattle.reuse.proofs.Stack.{reuses-append, distinct-from}
-use Rattle.reuse.proofs.Depth.{cold-absent}
 use Rattle.reuse.proofs.Across.{stack-grows}
-use Rattle.reuse_engine.proofs.Engine.{place-cold, place-full, place-counts, touched-known, touched-new}
+use Rattle.reuse_engine.proofs.Engine.{place-new, place-full, place-counts, touched-known, touched-new}
 
 -- the first i reads were taken after the stack in the first n words; `held` words of the row are the stack now
 pub record Running (stack : List ℕ) (n : ℕ) (reads row : List ℕ) (held i : ℕ) : Type 0 where
@@ -74,11 +73,11 @@ module _ (stack : List ℕ) (n : ℕ) (reads : List ℕ) where
       next-answers = rw (add-one i, take-suc reads i 0 l, reuses-append (take n stack) (take i reads) (getD reads i 0 ∷ []), h .front)
 
       -- a new extent makes the stack one longer
-      new-size : depth (take held row) (getD reads i 0) ≡ cold → length (foldl touch (take n stack) (take (i + 1) reads)) ≡ suc held
+      new-size : mem (getD reads i 0) (take held row) ≡ false → length (foldl touch (take n stack) (take (i + 1) reads)) ≡ suc held
       unfolding touch
       new-size e =
           ap length next-stack
-          ∙ ap suc (ap length (remove-absent (getD reads i 0) (take held row) (cold-absent (getD reads i 0) (take held row) e)) ∙ length-take-le held row held-fits)
+          ∙ ap suc (ap length (remove-absent (getD reads i 0) (take held row) e) ∙ length-take-le held row held-fits)
 
       -- a cold read
       pub run-cold : placeOf row held (getD reads i 0) ≡ Cold → Running stack n reads (lifted (suc held) (getD reads i 0) row) (held + 1) (i + 1)
@@ -89,7 +88,7 @@ module _ (stack : List ℕ) (n : ℕ) (reads : List ℕ) where
             once = h .once;
             within = omega arith;
             long = t .size ∙ h .long;
-            size = omega (arith, new-size (place-cold row held (getD reads i 0) held-fits p));
+            size = omega (arith, new-size (place-new row held (getD reads i 0) held-fits p));
             front = rw (add-one held) (t .front ∙ sym next-stack);
           }
 

@@ -13,7 +13,7 @@ use Rattle.reuse.specs.Lru.{Reuse, cold, at, depth}
 -- the answer by the extent's depth, and by whether there is room for one more
 abbrev pub placeAt : Reuse → Bool → Place
 placeAt (at d) room = Depth d
-placeAt cold room = cond room Cold Full
+placeAt (cold k) room = cond room Cold Full
 
 -- the answer for x and the stack in the first n of these words
 unfoldable pub placeOf : List ℕ → ℕ → ℕ → Place

@@ -22,7 +22,7 @@ use Rattle.reuse.proofs.Sums.{at-le-sum, sum-drop, sum-drop-le}
 use Rattle.session_marks.proofs.Marks.{row-tidy, slot-absent, slot-marked}
 use Rattle.session_marks.proofs.Search.{found-slot}
 use Rattle.session_soundness.proofs.Sound.{intact-wide}
-use Rattle.session.proofs.Sound.{Kept, true-sound, rows-of, kept-wide, kept-trued, kept-few}
+use Rattle.session.proofs.Sound.{Kept, true-sound, rows-of, length-stack, kept-wide, kept-trued, kept-few}
 use Rattle.session.proofs.Taken.{Roomed, stack-mem, slot-below, slot-depth}
 
 module _ (s : Session) (k : Kept s) where
@@ -161,7 +161,8 @@ module _ (s : Session) (w : Wide (s .first) (s .hist) (s .slots) (s .sums)) (x :
         }
 
     -- a read of a new extent
-    pub cold-way : k ≡ slotCount → stepAt σ x cold ≡ readOf s x
+    pub cold-way : k ≡ slotCount → stepAt σ x (cold (suc (extents σ))) ≡ readOf s x
     cold-way e =
-        let new : taken σ x ≡ stepAt σ x cold = unfold taken in rw (depth-absent x (stackOf σ) (not-held σ (m .kept) x (sym at-k ∙ e))) in
+        let new : taken σ x ≡ stepAt σ x (cold (suc (extents σ))) =
+        unfold taken in rw (depth-absent x (stackOf σ) (not-held σ (m .kept) x (sym at-k ∙ e)), length-stack σ (m .kept)) in
         sym new ∙ taken-is

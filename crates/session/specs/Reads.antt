@@ -61,7 +61,7 @@ entered s x =
 
 -- a read that is accepted, by the place of x in the LRU stack; the sums read are the zeros of its slot's number
 abbrev pub stepAt : Session → ℕ → Reuse → Step
-stepAt s x cold = record { session = entered s x; answer = Cold }
+stepAt s x (cold n) = record { session = entered s x; answer = Cold n }
 stepAt s x (at d) = record { session = moved s x d; answer = Distance d (zeros levels (slotOf s x)) }
 
 -- a read that is accepted by a session with room
@@ -87,6 +87,6 @@ readOf s x =
 
 -- the sums that an answer has read: a cold read and a refusal read none
 abbrev pub sumsRead : Answer → ℕ
-sumsRead Cold = 0
+sumsRead (Cold n) = 0
 sumsRead (Distance d n) = n
 sumsRead (Refused n) = 0

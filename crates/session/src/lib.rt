@@ -4,7 +4,7 @@ ghost use Prim.Native.Nat.{suc};
 ghost use lib.ListN.{drop};
 ghost use Rattle.reuse.specs.Lists.{sum};
 ghost use Rattle.reuse.specs.Lru.{cold, at};
-ghost use Rattle.session.specs.Sessions.{fresh, marks, sound};
+ghost use Rattle.session.specs.Sessions.{fresh, marks, extents, sound};
 ghost use Rattle.session.specs.Reads.{gathered, stepAt, refused, readOf};
 ghost use Rattle.session.specs.Steps.{Gatherable, Movable, Enterable};
 use reuse::MAX_EXTENTS;
@@ -24,9 +24,9 @@ pub struct Session {
     pub next: u32,
 }
 
-// A read's answer: cold, its distance with the number of sums read, or the refusal's number.
+// A read's answer: cold with the number of different extents read, itself included; its distance with the number of sums read; or the refusal's number.
 pub enum Answer {
-    Cold,
+    Cold { number: u32 },
     Distance { distance: u32, sums_read: u32 },
     Refused(u32),
 }
@@ -109,18 +109,18 @@ impl Session {
     // A first read of the extent x.
     fn entered(mut self, x: u32) -> Step
         requires { ⌜ Enterable self ⌝ }
-        ensures { λ r. ⌜ r ≡ stepAt self x cold ⌝ }
+        ensures { λ r. ⌜ r ≡ stepAt self x (cold (suc (extents self))) ⌝ }
     {
-        let v = self.sums[ROOT] as usize;
+        let v = self.sums[ROOT];
         let next = self.next as usize;
-        self.first[v] = x;
+        self.first[v as usize] = x;
         session_sums::put_mark(&mut self.sums, next, 1);
         self.slots[next] = x;
         self.next = self.next + 1;
         self.reads = self.reads + 1;
         Step {
             session: self,
-            answer: Answer::Cold,
+            answer: Answer::Cold { number: v + 1 },
         }
     }
 
@@ -134,7 +134,7 @@ impl Session {
         }
     }
 
-    // A read of the extent: its reuse distance and the sums read, or the refusal, and the session after it.
+    // A read of the extent: its number where it is cold, or its reuse distance and the sums read, or the refusal; and the session after it.
     pub fn read(mut self, extent: u32) -> Step
         ensures { λ r. ⌜ r ≡ readOf self extent ⌝ }
     {

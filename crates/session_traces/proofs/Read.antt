@@ -137,7 +137,7 @@ module _ (s : Session) (t : List ℕ) (g : Stands s t) (x : ℕ) where
 
 -- an accepted read's answer is no refusal
 accepted : (s : Session) (x : ℕ) (r : Reuse) (n : ℕ) → stepAt s x r .answer ≡ Refused n → ⊥
-accepted s x cold n e = let z : _≡_ {A = ℕ} 0 1 = cc in omega arith
+accepted s x (cold m) n e = let z : _≡_ {A = ℕ} 0 1 = cc in omega arith
 accepted s x (at d) n e = let z : _≡_ {A = ℕ} 0 1 = cc in omega arith
 
 -- refusals of one answer have one number

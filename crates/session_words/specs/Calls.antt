@@ -29,7 +29,7 @@ readIn w x = cond (leb sessionLength (length w)) (readOf (sessionIn w) x) (readR
 
 -- the words after a read: the session's at their front; a refusal leaves them as they were
 abbrev pub sessionLeft : Answer → Session → List ℕ → List ℕ
-sessionLeft Cold s w = putAt w 0 (sessionLaid s)
+sessionLeft (Cold n) s w = putAt w 0 (sessionLaid s)
 sessionLeft (Distance d n) s w = putAt w 0 (sessionLaid s)
 sessionLeft (Refused n) s w = w
 
@@ -47,6 +47,6 @@ shareIn w c = cond (leb sessionLength (length w)) (shareCall (sessionIn w) c) (N
 
 -- a read was accepted
 abbrev pub isRead : Answer → Bool
-isRead Cold = true
+isRead (Cold n) = true
 isRead (Distance d n) = true
 isRead (Refused n) = false

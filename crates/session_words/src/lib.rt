@@ -13,7 +13,7 @@ fn accepted(a: Answer) -> bool
     ensures { λ r. ⌜ r ≡ isRead a ⌝ }
 {
     match a {
-        Answer::Cold => true,
+        Answer::Cold { number: _ } => true,
         Answer::Distance {
             distance: _,
             sums_read: _,

@@ -15,9 +15,9 @@ use Rattle.reuse_engine.specs.Engine.{placeOf, leftBy}
 use Rattle.reuse.specs.Summary.{words, histogram, summaryOf}
 use Rattle.reuse.proofs.Lists.{by-test, firsts-known, firsts-new}
 use Rattle.reuse.proofs.Stack.{stack-law, mem-stack}
-use Rattle.reuse.proofs.Depth.{cold-absent, depth-absent}
+use Rattle.reuse.proofs.Depth.{depth-absent}
 use Rattle.reuse.proofs.Counts.{take-from}
-use Rattle.reuse_engine.proofs.Engine.{place-depth, place-cold, place-room}
+use Rattle.reuse_engine.proofs.Engine.{place-depth, place-new, place-room}
 use Rattle.reuse_engine.proofs.Runs.{held-fits}
 use Rattle.reuse_engine.proofs.Traces.{held-count, full-count}
 use Rattle.reuse_engine.specs.Counting.{Counted}
@@ -97,7 +97,7 @@ module _ (trace stack first hist : List ℕ) where
       new : placeOf row held (getD trace i 0) ≡ Cold → firsts (take (i + 1) trace) ≡ firsts (take i trace) ++ (getD trace i 0 ∷ [])
       new p =
           next-listed ∙ firsts-new (getD trace i 0) (take i trace)
-          (sym next-known ∙ cold-absent (getD trace i 0) (take held row) (place-cold row held (getD trace i 0) fits p))
+          (sym next-known ∙ place-new row held (getD trace i 0) fits p)
 
       -- a read at a distance is of a known one
       known : (d : ℕ) → placeOf row held (getD trace i 0) ≡ Depth d → firsts (take (i + 1) trace) ≡ firsts (take i trace)

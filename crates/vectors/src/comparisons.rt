@@ -20,7 +20,7 @@ const SIZES: usize = 16;
 // Whether a read's answer is a distance of at most the size.
 fn is_within(answer: Answer, size: u32) -> bool {
     match answer {
-        Answer::Cold => false,
+        Answer::Cold { number: _ } => false,
         Answer::Distance {
             distance,
             sums_read,

@@ -31,8 +31,8 @@ fn row(call: &[u8], step: Step) -> Session {
     let answer = step.answer;
     io::write_all(STDOUT_FILENO, call);
     match answer {
-        Answer::Cold => {
-            io::write_all(STDOUT_FILENO, b": cold");
+        Answer::Cold { number } => {
+            put(b": cold ", number);
         }
         Answer::Distance {
             distance,
@@ -54,7 +54,8 @@ fn main() {
     let one = after(SLOTS as u32 - 1, 1);
     let moved = row(b"one extent, read 512", one.read(0));
     row(b"one extent, read 513", moved.read(0));
-    let full = after(MAX_EXTENTS as u32, MAX_EXTENTS as u32);
+    let last_new = after(MAX_EXTENTS as u32 - 1, MAX_EXTENTS as u32 - 1);
+    let full = row(b"the 256th extent", last_new.read(MAX_EXTENTS as u32 - 1));
     let known = row(b"256 extents, then a known one", full.read(0));
     row(b"256 extents, then another", known.read(MAX_EXTENTS as u32));
     let most = after(MAX_READS - 1, 1);

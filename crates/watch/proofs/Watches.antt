@@ -30,7 +30,7 @@ use Rattle.watch.proofs.Soundness.{Sound, watch-sound}
 
 -- an accepted read's answer is heard as its place in the stack
 pub heard-step : (s : Session) (x : ℕ) (r : Reuse) → heardOf (stepAt s x r .answer) ≡ Read (readingOf r)
-heard-step s x cold = refl
+heard-step s x (cold n) = refl
 heard-step s x (at d) = refl
 
 -- a watch of these counts
@@ -44,26 +44,26 @@ Ranged rs = (d : ℕ) → mem d (finite rs) ≡ true → (1 ≤ d) × (d ≤ max
 -- a read is cold, a hit, or neither
 one-read : (c : ℕ) (r : Reuse) → count isCold (r ∷ []) + count (within c) (r ∷ []) ≤ 1
 unfolding count
-one-read c cold = omega arith
+one-read c (cold n) = omega arith
 one-read c (at d) = by-test (leb d c) (λ e. simp e (omega arith)) (λ e. simp e (omega arith))
 
 -- a distance of the first answer is one of all
 finite-head : (r : Reuse) (rs : List Reuse) (d : ℕ) → mem d (finite (r ∷ [])) ≡ true → mem d (finite (r ∷ rs)) ≡ true
 unfolding finite mem
-finite-head cold rs d m = clash m refl
+finite-head (cold n) rs d m = clash m refl
 finite-head (at e) rs d m = by-test (eqb d e) (λ q. simp q) (λ q. clash m (simp q))
 
 -- so is one of the others
 finite-tail : (r : Reuse) (rs : List Reuse) (d : ℕ) → mem d (finite rs) ≡ true → mem d (finite (r ∷ rs)) ≡ true
 unfolding finite
-finite-tail cold rs d m = m
+finite-tail (cold n) rs d m = m
 finite-tail (at e) rs d m = mem-tail d e (finite rs) m
 
 -- one answer
 one : (w : Watch) (r : Reuse) → Sound w → suc (w .reads) ≤ maxReads → Ranged (r ∷ [])
     → notedOf w (readingOf r) .watch ≡ watchOf (w .size) (w .reads + 1) (w .cold + count isCold (r ∷ [])) (w .hits + count (within (w .size)) (r ∷ []))
 unfolding notedOf countedBy count finite
-one w cold s l h = rw (watch-sound w s, ne-eqb (w .reads) maxReads (λ e. omega arith))
+one w (cold n) s l h = rw (watch-sound w s, ne-eqb (w .reads) maxReads (λ e. omega arith))
 one w (at d) s l h =
     let p = h d (mem-head d []) in
     rw (watch-sound w s, le-leb 1 d (p .0), le-leb d maxExtents (p .1), ne-eqb (w .reads) maxReads (λ e. omega arith))

@@ -64,15 +64,15 @@ missesCall w = cond (soundOf w) (Misses (w .reads - w .hits)) (NoMisses 7)
 unfoldable pub shareCall : Watch → ShareAnswer
 shareCall w = cond (soundOf w) (Answered (shareOf (w .hits) (w .reads))) (NoShare 7)
 
--- what the watch takes of a session's answer
+-- what the watch takes of a session's answer: of a cold one not its number
 abbrev pub heardOf : Answer → Heard
-heardOf ColdRead = Read Cold
+heardOf (ColdRead n) = Read Cold
 heardOf (DistanceRead d n) = Read (Distance d)
 heardOf (NoRead n) = Unread n
 
--- a trace's answer as a reading
+-- a trace's answer as a reading: a cold one without its number
 abbrev pub readingOf : Reuse → Reading
-readingOf cold = Cold
+readingOf (cold n) = Cold
 readingOf (at d) = Distance d
 
 -- the watch after a list of answers, each given to the watch that the last update left

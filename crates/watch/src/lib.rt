@@ -15,7 +15,7 @@ pub struct Watch {
     pub hits: u32,
 }
 
-// A read's answer as the watch takes it.
+// A read's answer as the watch takes it: of a cold one its number does not matter.
 pub enum Reading {
     Cold,
     Distance(u32),
@@ -168,7 +168,7 @@ pub fn reading_of(answer: Answer) -> Heard
     ensures { λ r. ⌜ r ≡ heardOf answer ⌝ }
 {
     match answer {
-        Answer::Cold => Heard::Read(Reading::Cold),
+        Answer::Cold { number: _ } => Heard::Read(Reading::Cold),
         Answer::Distance {
             distance,
             sums_read: _,

@@ -1,11 +1,15 @@
 -- Words that hold a watch: too few of them, and what a refusal leaves.
-use mathlib.Core.Path.{_≡_, refl, ap, _∙_}
-use Prim.Native.Nat.{ℕ, zero, suc, _≤_, _<_}
+use mathlib.Core.Path.{_≡_, refl, sym, ap, _∙_}
+use Prim.Native.Nat.{ℕ, _+_, _-_, _≤_, _<_}
 use native.Mathlib.Omega.{arith}
 use mathlib.Core.List.{List}
-use mathlib.Core.Bool.{true, false, true≢false, false≢true}
+use mathlib.Core.Bool.{Bool, true, false, cond, true≢false, false≢true}
+use lib.Dec.{leb}
 use lib.ListN.{length}
-use borrow.Author.Tests.{le-leb, lt-leb}
+use borrow.Author.Tests.{leb-true, leb-false, le-leb, lt-leb, lt-ltb, le-ltb}
+use Rattle.reuse.specs.Limits.{maxExtents}
+use Rattle.reuse.specs.Written.{coldBase}
+use Rattle.reuse.proofs.Lists.{by-test}
 use Rattle.reuse_rows.specs.Rows.{putAt}
 use Rattle.reuse_copies.proofs.Puts.{put-length}
 use Rattle.summary_calls.specs.declared.Written.the-variants.{Words}
@@ -14,13 +18,13 @@ use Rattle.summary_calls.specs.declared.ShareAnswer.the-variants.{Refused as No
 use Rattle.summary_calls.specs.Calls.{refused}
 use Rattle.summary_calls.proofs.Calls.{wrote-short, wrote-all}
 use Rattle.watch.specs.declared.Watch.{Watch}
-use Rattle.watch.specs.declared.Reading.the-variants.{Distance as DistanceReading}
+use Rattle.watch.specs.declared.Reading.the-variants.{Cold as ColdReading, Distance as DistanceReading}
 use Rattle.watch.specs.declared.Outcome.{Outcome}
 use Rattle.watch.specs.declared.Outcome.the-variants.{Counted, Refused as NotCounted}
 use Rattle.watch.specs.Watching.{newOf, notedOf, missesCall, shareCall}
 use Rattle.watch.specs.Watching.{refused as unnoted}
 use Rattle.watch_words.specs.Layout.{watchLength, watchIn, watchLaid}
-use Rattle.watch_words.specs.Calls.{newWatch, readingAt, noteIn, watchLeft, missesIn, shareIn, isCounted}
+use Rattle.watch_words.specs.Calls.{newWatch, isColdWord, readingAt, noteIn, watchLeft, missesIn, shareIn, isCounted}
 
 -- a watch laid into words is read back
 watch-read : (v : Watch) (w : List ℕ) → watchIn (putAt w 0 (watchLaid v)) ≡ v
@@ -87,7 +91,18 @@ pub left-uncounted : (o : Outcome) (s : Watch) (w : List ℕ) → isCounted o �
 left-uncounted Counted s w e = absurd (true≢false e)
 left-uncounted (NotCounted n) s w e = refl
 
--- a distance that is not 0 is a distance
-pub reading-more : (d : ℕ) → (d ≡ 0 → ⊥) → DistanceReading d ≡ readingAt d
-reading-more zero h = absurd (h refl)
-reading-more (suc d) h = refl
+-- a word by whether it is a cold read's
+pub reading-is : (d : ℕ) (b : Bool) → isColdWord d ≡ b → readingAt d ≡ cond b ColdReading (DistanceReading d)
+reading-is d b e = ap (λ (z : Bool). cond z ColdReading (DistanceReading d)) e
+
+-- a word at or below 65,536 is no cold read's
+pub not-above : (d : ℕ) → d ≤ coldBase → isColdWord d ≡ false
+not-above d l = simp (le-ltb coldBase d l)
+
+-- one above it is, where its number is within the limit
+pub by-number : (d : ℕ) → coldBase < d → isColdWord d ≡ leb (d - coldBase) maxExtents
+by-number d l =
+    simp (lt-ltb coldBase d l)
+    (by-test (leb (d - coldBase) maxExtents)
+    (λ e. le-leb d (coldBase + maxExtents) (omega (arith, leb-true (d - coldBase) maxExtents e)) ∙ sym e)
+    (λ e. lt-leb d (coldBase + maxExtents) (omega (arith, leb-false (d - coldBase) maxExtents e)) ∙ sym e))

@@ -1,9 +1,11 @@
 -- What the calls on words that hold a watch answer and leave.
-use Prim.Native.Nat.{ℕ, zero, suc}
-use mathlib.Core.Bool.{Bool, true, false, cond}
-use mathlib.Core.List.{List}
-use lib.Dec.{leb}
+use Prim.Native.Nat.{ℕ, _+_}
+use mathlib.Core.Bool.{Bool, true, false, cond, _&&_}
+use mathlib.Core.List.{List, [], _∷_}
+use lib.Dec.{leb, ltb}
 use lib.ListN.{length}
+use Rattle.reuse.specs.Limits.{maxExtents}
+use Rattle.reuse.specs.Written.{coldBase}
 use Rattle.reuse_rows.specs.Rows.{putAt}
 use Rattle.summary_calls.specs.declared.MissCount.{MissCount}
 use Rattle.summary_calls.specs.declared.MissCount.the-variants.{Refused as NoMisses}
@@ -24,10 +26,13 @@ use Rattle.watch_words.specs.Layout.{watchLength, watchIn, watchLaid}
 unfoldable pub newWatch : ℕ → List ℕ → Wrote
 newWatch size w = wrote (watchLaid (newOf size)) w
 
--- a distance as the buffer of distances writes it: 0 for cold
+-- 65,536 plus a number from 1 to the limit of extents
+abbrev pub isColdWord : ℕ → Bool
+isColdWord d = ltb coldBase d && leb d (coldBase + maxExtents)
+
+-- a word as the distance buffer writes it: a cold read, whatever its number, or else a distance
 abbrev pub readingAt : ℕ → Reading
-readingAt zero = ColdReading
-readingAt (suc d) = DistanceReading (suc d)
+readingAt d = cond (isColdWord d) ColdReading (DistanceReading d)
 
 -- an update of the watch in the first words; too few words are no sound watch
 unfoldable pub noteIn : List ℕ → ℕ → Change
@@ -37,6 +42,11 @@ noteIn w d = cond (leb watchLength (length w)) (notedOf (watchIn w) (readingAt d
 abbrev pub watchLeft : Outcome → Watch → List ℕ → List ℕ
 watchLeft Counted s w = putAt w 0 (watchLaid s)
 watchLeft (NotCounted n) s w = w
+
+-- the words after a list of updates, each of the words that the last one left
+unfoldable pub wordsAfter : List ℕ → List ℕ → List ℕ
+wordsAfter w [] = w
+wordsAfter w (d ∷ ds) = wordsAfter (watchLeft (noteIn w d .outcome) (noteIn w d .watch) w) ds
 
 -- the misses of the watch in the first words
 unfoldable pub missesIn : List ℕ → MissCount

@@ -10,7 +10,7 @@ ghost use Prim.Native.Nat.{_≤_};
 ghost use lib.ListN.{length};
 ghost use Rattle.reuse_rows.specs.Rows.{putAt};
 ghost use Rattle.watch_words.specs.Layout.{watchLength, watchIn, watchLaid};
-ghost use Rattle.watch_words.specs.Calls.{newWatch, readingAt, noteIn, watchLeft, missesIn, shareIn, isCounted};
+ghost use Rattle.watch_words.specs.Calls.{newWatch, isColdWord, readingAt, noteIn, watchLeft, missesIn, shareIn, isCounted};
 
 // The words of a watch: its size, its reads, its cold reads, its hits.
 const WATCH: usize = 4;
@@ -37,14 +37,24 @@ fn put_watch(words: &mut [u32], w: Watch)
     reuse_copies::put(words, 0, &row);
 }
 
-// A distance as the buffer of distances writes it, 0 for cold.
-fn reading(distance: u32) -> Reading
-    ensures { λ r. ⌜ r ≡ readingAt distance ⌝ }
+// Whether the word is 65,536 plus a number from 1 to the limit of extents.
+fn is_cold(word: u32) -> bool
+    ensures { λ r. ⌜ r ≡ isColdWord word ⌝ }
 {
-    if distance == 0 {
+    if word <= reuse::COLD_BASE {
+        return false;
+    }
+    (word - reuse::COLD_BASE) as usize <= reuse::MAX_EXTENTS
+}
+
+// A word as the buffer of distances writes it: a cold read, whatever its number, or else a distance.
+fn reading(word: u32) -> Reading
+    ensures { λ r. ⌜ r ≡ readingAt word ⌝ }
+{
+    if is_cold(word) {
         return Reading::Cold;
     }
-    Reading::Distance(distance)
+    Reading::Distance(word)
 }
 
 // Whether an update was counted.
@@ -69,15 +79,15 @@ pub fn new_watch(size: u32, words: &mut [u32]) -> Written
     Written::Words(WATCH)
 }
 
-// The watch in the words takes one more distance, 0 for a cold read.
-pub fn read(words: &mut [u32], distance: u32) -> Outcome
-    ensures { λ r. ⌜ (r ≡ noteIn (now (words .entry)) distance .outcome) × (now (words .exit) ≡ watchLeft (noteIn (now (words .entry)) distance .outcome) (noteIn (now (words .entry)) distance .watch) (now (words .entry))) ⌝ }
+// The watch in the words takes one more answer, as the buffer of distances writes it.
+pub fn read(words: &mut [u32], word: u32) -> Outcome
+    ensures { λ r. ⌜ (r ≡ noteIn (now (words .entry)) word .outcome) × (now (words .exit) ≡ watchLeft (noteIn (now (words .entry)) word .outcome) (noteIn (now (words .entry)) word .watch) (now (words .entry))) ⌝ }
 {
     if words.len() < WATCH {
         return Outcome::Refused(7);
     }
     let w = watch_in(words);
-    let change = watch::noted(w, reading(distance));
+    let change = watch::noted(w, reading(word));
     let outcome = change.outcome;
     if !was_counted(outcome) {
         return outcome;

@@ -1,7 +1,7 @@
 -- Lists of read calls, refused ones included: what they answer, and what the session then stands for.
 use Prim.Native.Nat.{ℕ, suc, _≤_}
 use mathlib.Core.Path.{_≡_, refl, sym, ap, subst, _∙_}
-use mathlib.Core.List.{List, [], _∷_, _++_, map, append-assoc, append-nil}
+use mathlib.Core.List.{List, [], _∷_, _++_, map, map-map, append-assoc, append-nil}
 use mathlib.Core.Bool.{Bool, true, false, cond, not, _&&_}
 use native.Mathlib.Omega.{arith}
 use lib.Dec.{eqb}
@@ -10,27 +10,30 @@ use borrow.Author.Tests.{ne-eqb}
 use Rattle.reuse.specs.Limits.{maxReads, maxExtents}
 use Rattle.reuse.specs.Lists.{mem, firsts}
 use Rattle.reuse.specs.Lru.{Reuse, cold, at, depth, touch, stack, reuses, distance}
+use Rattle.reuse.specs.Written.{wordOf}
 use Rattle.reuse.specs.Traces.{Within}
 use Rattle.reuse.proofs.Lists.{firsts-new, firsts-longer}
 use Rattle.reuse.proofs.Stack.{stack-snoc}
 use Rattle.reuse.proofs.Depth.{distance-law}
 use Rattle.session.specs.declared.Session.{Session}
 use Rattle.session.specs.declared.Step.{Step}
+use Rattle.session.specs.declared.Answer.{Answer}
+use Rattle.session.specs.declared.Answer.the-variants.{Cold, Distance, Refused}
 use Rattle.session.specs.Sessions.{fresh}
 use Rattle.session.specs.Reads.{roomed, stepAt, readOf}
 use Rattle.session_traces.proofs.Stands.{Stands, fresh-stands}
 use Rattle.session_traces.proofs.Read.{over, read-full, read-many, read-taken, read-stands}
-use Rattle.whole.specs.Runs.{gives, refused, sessionAfter, answersOf, keep, accepted}
+use Rattle.whole.specs.Runs.{gives, refused, sessionAfter, answersOf, written, keep, accepted}
 use Rattle.whole.specs.Claim.{Seen, seenOf}
 
 -- a step's answer shows the depth
 seen-step : (s : Session) (x : ℕ) (r : Reuse) → seenOf (stepAt s x r .answer) ≡ gives r
-seen-step s x cold = refl
+seen-step s x (cold n) = refl
 seen-step s x (at d) = refl
 
 -- a step is kept
 pub keep-step : (s : Session) (x : ℕ) (r : Reuse) (xs : List ℕ) → keep (stepAt s x r .answer) x xs ≡ x ∷ xs
-keep-step s x cold xs = refl
+keep-step s x (cold n) xs = refl
 keep-step s x (at d) xs = refl
 
 -- the answers owed, with the limits tested for equality
@@ -137,3 +140,19 @@ tested-within (x ∷ u) t w =
 pub uncut : (t : List ℕ) → Within t → map seenOf (answersOf fresh t) ≡ map gives (reuses [] t)
 unfolding stack
 uncut t w = calls t ∙ tested-within t [] w
+
+-- what was seen, as the buffer writes it
+abbrev seenWord : Seen → ℕ
+seenWord (gives r) = wordOf r
+seenWord (refused n) = 0
+
+-- so of a list of answers
+seen-words : (l : List Answer) → map seenWord (map seenOf l) ≡ map written l
+seen-words [] = refl
+seen-words (Cold n ∷ l) = ap {B = List ℕ} (λ r. wordOf (cold n) ∷ r) (seen-words l)
+seen-words (Distance d n ∷ l) = ap {B = List ℕ} (λ r. wordOf (at d) ∷ r) (seen-words l)
+seen-words (Refused n ∷ l) = ap {B = List ℕ} (λ r. 0 ∷ r) (seen-words l)
+
+-- the uncut reading's answers as the buffer writes them
+pub uncut-words : (t : List ℕ) → Within t → map written (answersOf fresh t) ≡ map wordOf (reuses [] t)
+uncut-words t w = sym (seen-words (answersOf fresh t)) ∙ ap (map seenWord) (uncut t w) ∙ map-map seenWord gives (reuses [] t)

@@ -22,7 +22,8 @@ use Rattle.reuse.proofs.Formed.{summary-well-formed}
 use Rattle.reuse.proofs.Traces.{within-front}
 use Rattle.summary_calls.specs.Calls.{wrote}
 use Rattle.session.specs.Sessions.{fresh}
-use Rattle.after.specs.Calls.{wordOf, afterCall}
+use Rattle.reuse.specs.Written.{wordOf}
+use Rattle.after.specs.Calls.{afterCall}
 use Rattle.whole.specs.Runs.{accepted, gives, refused, outcome, Grouping, parts, logOf, grouped, roomy}
 use Rattle.whole.specs.Cuttings.{Cutting, only, andThen, cutParts, Follows, after, endToEnd, cutDistances, cutRoomy}
 use Rattle.whole.proofs.Groupings.{log-append, log-one, outcome-wrote, grouping-outcome}

@@ -8,16 +8,17 @@ use Rattle.reuse.specs.Cache.{cacheHits}
 use Rattle.reuse.specs.Summary.{summaryOf}
 use Rattle.reuse.specs.Traces.{Within}
 use Rattle.reuse.proofs.Cache.{cache-law}
+use Rattle.reuse.proofs.Formed.{formed}
+use Rattle.reuse.proofs.Newcomers.{trace-numbers, prefix-newcomer, prefix-numbers}
 use Rattle.session.specs.declared.Answer.{Answer}
 use Rattle.session.specs.declared.Answer.the-variants.{Cold, Distance, Refused}
 use Rattle.session.specs.Sessions.{fresh}
 use Rattle.session_traces.proofs.Stands.{fresh-stands}
 use Rattle.session_traces.proofs.Read.{walks}
-use Rattle.after.specs.Calls.{wordOf}
-use Rattle.whole.specs.Runs.{answersOf, sessionAfter, gives, refused, Grouping, parts, logOf, grouped, roomy}
+use Rattle.whole.specs.Runs.{answersOf, written, sessionAfter, gives, refused, Grouping, parts, logOf, grouped, roomy}
 use Rattle.whole.specs.Cuttings.{Cutting, cutParts, Follows, cutDistances, cutRoomy}
-use Rattle.whole.specs.Claim.{Seen, seenOf, written, heldBy, Claims, Claim}
-use Rattle.whole.proofs.Calls.{all-accepted, trace-stands, uncut}
+use Rattle.whole.specs.Claim.{Seen, seenOf, heldBy, Claims, Claim}
+use Rattle.whole.proofs.Calls.{all-accepted, trace-stands, uncut, uncut-words}
 use Rattle.whole.proofs.Refusals.{calls-owed, no-trace}
 use Rattle.whole.proofs.Groupings.{session-outcome, grouping-outcome}
 use Rattle.whole.proofs.Plans.{plan-outcome}
@@ -33,7 +34,7 @@ held size (refused n) = false
 
 -- what was seen of an answer tells whether the cache holds the extent
 held-seen : (size : ℕ) (a : Answer) → held size (seenOf a) ≡ heldBy size a
-held-seen size Cold = refl
+held-seen size (Cold n) = refl
 held-seen size (Distance d n) = refl
 held-seen size (Refused n) = refl
 
@@ -54,22 +55,6 @@ caches t w size =
 pub groupings : (t : List ℕ) → Within t → (g : Grouping) → logOf (parts g) ≡ t → grouped g ≡ cond (roomy g) (gives (summaryOf t)) (refused 6)
 groupings t w g e = rw e at (grouping-outcome g (rw e w))
 
--- what was seen, as the buffer writes it
-abbrev saw : Seen → ℕ
-saw (gives r) = wordOf r
-saw (refused n) = 0
-
--- so of a list of answers
-saw-seen : (l : List Answer) → map saw (map seenOf l) ≡ map written l
-saw-seen [] = refl
-saw-seen (Cold ∷ l) = ap {B = List ℕ} (λ r. 0 ∷ r) (saw-seen l)
-saw-seen (Distance d n ∷ l) = ap {B = List ℕ} (λ r. d ∷ r) (saw-seen l)
-saw-seen (Refused n ∷ l) = ap {B = List ℕ} (λ r. 0 ∷ r) (saw-seen l)
-
--- the uncut reading's answers as the buffer writes them
-pub uncut-words : (t : List ℕ) → Within t → map written (answersOf fresh t) ≡ map wordOf (reuses [] t)
-uncut-words t w = sym (saw-seen (answersOf fresh t)) ∙ ap (map saw) (uncut t w) ∙ map-map saw gives (reuses [] t)
-
 -- every cutting of t with its distances
 pub distances : (t : List ℕ) → Within t → (c : Cutting) → Follows c → logOf (cutParts c) ≡ t
     → cutDistances c ≡ cond (cutRoomy c) (gives (map written (answersOf fresh t))) (refused 6)
@@ -82,6 +67,7 @@ pub runs : (t : List ℕ) → Within t → Claims t
 runs t w = record {
   accepts = all-accepted t fresh [] fresh-stands w;
   uncut = uncut t w;
+  growth = trace-numbers t;
   uncut-summary = λ buffer. session-outcome (sessionAfter fresh t) t buffer (trace-stands t w);
   groupings = groupings t w;
   plans = plan-outcome t w;
@@ -90,13 +76,14 @@ runs t w = record {
   counts = λ c. counts c t w;
 }
 
--- demand 3, and the split of one store
+-- demand 3, the numbers of newcomers after any words, and the split of one store
 pub claim : Claim
 claim = record {
   calls = calls-owed;
   no-trace = no-trace;
   walks = walks;
   runs = runs;
+  prefixes = λ w reads h. record { next = prefix-newcomer w (formed w h) reads; in-order = prefix-numbers w (formed w h) reads };
   split-refusals = refusals;
   splits = splits;
 }

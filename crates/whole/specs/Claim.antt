@@ -2,16 +2,15 @@
 use Prim.Native.Nat.{ℕ}
 use mathlib.Core.Path.{_≡_}
 use mathlib.Core.List.{List, [], _∷_, _++_, map}
-use mathlib.Core.Bool.{Bool, false, cond, _&&_}
+use mathlib.Core.Bool.{Bool, true, false, cond, _&&_}
 use lib.Dec.{leb, ltb}
 use lib.ListN.{length}
 use Rattle.reuse.specs.Limits.{maxReads, maxExtents}
-use Rattle.reuse.specs.Lists.{firsts}
-use Rattle.reuse.specs.Lru.{Reuse, cold, at, reuses, distance, within}
+use Rattle.reuse.specs.Lists.{firsts, from}
+use Rattle.reuse.specs.Lru.{Reuse, cold, at, reuses, newcomers, distance, within}
 use Rattle.reuse.specs.Cache.{cacheHits}
-use Rattle.reuse.specs.Summary.{summaryOf}
+use Rattle.reuse.specs.Summary.{summaryOf, wellFormed}
 use Rattle.reuse.specs.Traces.{Within}
-use Rattle.after.specs.Calls.{wordOf}
 use Rattle.session.specs.declared.Answer.{Answer}
 use Rattle.session.specs.declared.Answer.the-variants.{Cold, Distance, Refused}
 use Rattle.session.specs.Sessions.{fresh}
@@ -21,24 +20,25 @@ use Rattle.texts.specs.Lines.{got}
 use Rattle.texts.specs.Plans.{Plan, reads as planReads}
 use Rattle.texts.specs.PlanTexts.{planOf}
 use Rattle.plan_calls.specs.Calls.{workWords, runCall}
-use Rattle.whole.specs.Runs.{planned, sessionAfter, answersOf, accepted, Reply, gives, refused, outcome, Grouping, parts, logOf, grouped, roomFor, roomy}
+use Rattle.whole.specs.Runs.{planned, sessionAfter, answersOf, written, accepted, Reply, gives, refused, outcome, Grouping, parts, logOf, grouped, roomFor, roomy}
 use Rattle.split_calls.specs.Refusals.{Refusals}
+use Rattle.whole.specs.Newcomers.{Newcomers}
 use Rattle.whole.specs.Counts.{Counts}
 use Rattle.whole.specs.Splits.{Customers, Splits}
 use Rattle.whole.specs.Cuttings.{Cutting, cutParts, Follows, cutDistances, cutRoomy}
 
--- a read's answer without its count of sums: a distance or cold, or its refusal
+-- a read's answer without its count of sums: cold with its number, a distance, or its refusal
 abbrev pub Seen : Type 0
 Seen = Reply Reuse
 
 -- of an answer
 abbrev pub seenOf : Answer → Seen
-seenOf Cold = gives cold
+seenOf (Cold n) = gives (cold n)
 seenOf (Distance d n) = gives (at d)
 seenOf (Refused n) = refused n
 
 -- what each of a list of read calls must answer, t being the reads accepted before: 8 where more reads than the
--- limit would result, else 9 where more extents would, else the distance counted on the log
+-- limit would result, else 9 where more extents would, else the distance or the newcomer's number counted on the log
 unfoldable pub owed : List ℕ → List ℕ → List Seen
 owed t [] = []
 owed t (x ∷ xs) =
@@ -48,15 +48,9 @@ owed t (x ∷ xs) =
     (refused 9 ∷ owed t xs)
     (gives (distance t x) ∷ owed (t ++ (x ∷ [])) xs))
 
--- an answer as the distance buffer writes it; a refusal, which none is here, as 0
-abbrev pub written : Answer → ℕ
-written Cold = wordOf cold
-written (Distance d n) = wordOf (at d)
-written (Refused n) = 0
-
 -- an answer that is a distance of at most c
 abbrev pub heldBy : ℕ → Answer → Bool
-heldBy c Cold = within c cold
+heldBy c (Cold n) = within c (cold n)
 heldBy c (Distance d n) = within c (at d)
 heldBy c (Refused n) = false
 
@@ -66,6 +60,8 @@ pub record Claims (t : List ℕ) : Type 0 where
   pub accepts : accepted fresh t ≡ t
   -- and answers the LRU stack's distances
   pub uncut : map seenOf (answersOf fresh t) ≡ map gives (reuses [] t)
+  -- the numbers of its cold answers are 1, 2, and so on to the number of the log's extents
+  pub growth : newcomers (reuses [] t) ≡ from 1 (length (firsts t))
   -- its summary is the log's
   pub uncut-summary : (buffer : List ℕ) →
       outcome (summaryCall (sessionAfter fresh t) buffer) ≡ cond (roomFor t buffer) (gives (summaryOf t)) (refused 6)
@@ -94,6 +90,8 @@ pub record Claim : Type 0 where
   pub walks : Walks
   -- and the rest
   pub runs : (t : List ℕ) → Within t → Claims t
+  -- after any well-formed words, whether or not a log has them, a cold answer's number counts their extents too
+  pub prefixes : (words reads : List ℕ) → wellFormed words ≡ true → Newcomers words reads
   -- a split of one store is refused exactly under the conditions of 2, 5, 10 and 6, in this order, and a refusal leaves every word
   pub split-refusals : (store : ℕ) (leasts words shares : List ℕ) → Refusals store leasts words shares
   -- and of logs within the limits it gives each customer its share: fewest misses in the customers' own caches, then the smallest total, then the smallest shares

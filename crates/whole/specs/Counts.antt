@@ -1,11 +1,12 @@
 -- Misses and hit shares of a log: of its summary's words, of the session that read it, and of a watch fed with its answers.
-use Prim.Native.Nat.{ℕ}
+use Prim.Native.Nat.{ℕ, _≤_}
 use mathlib.Core.Path.{_≡_}
-use mathlib.Core.List.{List, [], _∷_}
+use mathlib.Core.List.{List, [], _∷_, map}
 use lib.ListN.{length}
 use Rattle.reuse.specs.Lists.{firsts}
 use Rattle.reuse.specs.Cache.{cacheMisses, hitCount}
 use Rattle.reuse.specs.Summary.{summaryOf}
+use Rattle.reuse_rows.specs.Rows.{putAt}
 use Rattle.summary_calls.specs.declared.MissCount.{MissCount}
 use Rattle.summary_calls.specs.declared.MissCount.the-variants.{Misses}
 use Rattle.summary_calls.specs.declared.ShareAnswer.{ShareAnswer}
@@ -19,7 +20,9 @@ use Rattle.watch.specs.declared.Watch.{Watch}
 use Rattle.watch.specs.declared.Heard.{Heard}
 use Rattle.watch.specs.declared.Heard.the-variants.{Read, Refused}
 use Rattle.watch.specs.Watching.{newOf, notedOf, heardOf, missesCall as watchMisses, shareCall as watchShare}
-use Rattle.whole.specs.Runs.{sessionAfter, answersOf}
+use Rattle.watch_words.specs.Layout.{watchLength, watchLaid}
+use Rattle.watch_words.specs.Calls.{newWatch, wordsAfter}
+use Rattle.whole.specs.Runs.{sessionAfter, answersOf, written}
 
 -- a watch after what it hears of a session: a refusal is no reading
 abbrev pub hears : Watch → Heard → Watch
@@ -47,5 +50,8 @@ pub record Counts (c : ℕ) (t : List ℕ) : Type 0 where
   pub session-share : sessionShare (sessionAfter fresh t) c ≡ cacheShare c t
   -- the watch has counted every read, the cold ones and the hits
   pub watched : watching (newOf c) (answersOf fresh t) ≡ record { size = c; reads = length t; cold = length (firsts t); hits = hitCount c t }
+  -- a watch in lent words that takes the words of the distances ends so too
+  pub words-watched : (buffer : List ℕ) → watchLength ≤ length buffer →
+      wordsAfter (newWatch c buffer .buffer) (map written (answersOf fresh t)) ≡ putAt buffer 0 (watchLaid (watching (newOf c) (answersOf fresh t)))
   pub watch-misses : watchMisses (watching (newOf c) (answersOf fresh t)) ≡ cacheMissed c t
   pub watch-share : watchShare (watching (newOf c) (answersOf fresh t)) ≡ cacheShare c t

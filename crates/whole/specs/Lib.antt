@@ -1,5 +1,6 @@
 pub mod Runs
 pub mod Cuttings
+pub mod Newcomers
 pub mod Counts
 pub mod Splits
 pub mod Claim

@@ -5,6 +5,8 @@ use mathlib.Core.Bool.{Bool, _&&_}
 use lib.Dec.{leb}
 use lib.ListN.{length, take}
 use Rattle.reuse.specs.Lists.{firsts}
+use Rattle.reuse.specs.Lru.{cold, at}
+use Rattle.reuse.specs.Written.{wordOf}
 use Rattle.summary_calls.specs.declared.Written.{Written}
 use Rattle.summary_calls.specs.declared.Written.the-variants.{Words, Refused}
 use Rattle.summary_calls.specs.Calls.{Wrote, joinCall}
@@ -26,9 +28,15 @@ unfoldable pub answersOf : Session → List ℕ → List Answer
 answersOf s [] = []
 answersOf s (x ∷ xs) = readOf s x .answer ∷ answersOf (readOf s x .session) xs
 
+-- an answer as the distance buffer writes it; a refusal, which none is here, as 0
+abbrev pub written : Answer → ℕ
+written (Cold n) = wordOf (cold n)
+written (Distance d n) = wordOf (at d)
+written (NoRead n) = 0
+
 -- a read joins those accepted unless it was refused
 abbrev pub keep : Answer → ℕ → List ℕ → List ℕ
-keep Cold x xs = x ∷ xs
+keep (Cold n) x xs = x ∷ xs
 keep (Distance d n) x xs = x ∷ xs
 keep (NoRead n) x xs = xs
 

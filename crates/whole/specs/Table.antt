@@ -52,10 +52,10 @@ abbrev pub bothOf : List ℕ → List ℕ → Grouping
 bothOf a b = joined (partOf a) (partOf b) (replicate 20 5)
 
 pub record Table : Type 0 where
-  -- 7 3 7 9 3 3 9: cold cold 2 cold 3 1 2; sums read 0 0 9 0 8 8 7
-  pub reads-called : answersOf fresh seven ≡ Cold ∷ Cold ∷ Distance 2 9 ∷ Cold ∷ Distance 3 8 ∷ Distance 1 8 ∷ Distance 2 7 ∷ []
+  -- 7 3 7 9 3 3 9: cold 1, cold 2, 2, cold 3, 3, 1, 2; sums read 0 0 9 0 8 8 7
+  pub reads-called : answersOf fresh seven ≡ Cold 1 ∷ Cold 2 ∷ Distance 2 9 ∷ Cold 3 ∷ Distance 3 8 ∷ Distance 1 8 ∷ Distance 2 7 ∷ []
   pub sums-called : map sumsRead (answersOf fresh seven) ≡ 0 ∷ 0 ∷ 9 ∷ 0 ∷ 8 ∷ 8 ∷ 7 ∷ []
-  pub reads-defined : reuses [] seven ≡ cold ∷ cold ∷ at 2 ∷ cold ∷ at 3 ∷ at 1 ∷ at 2 ∷ []
+  pub reads-defined : reuses [] seven ≡ cold 1 ∷ cold 2 ∷ at 2 ∷ cold 3 ∷ at 3 ∷ at 1 ∷ at 2 ∷ []
   -- its summary: 7 3, F 7 3 9, R 9 3 7, H 1 2 1
   pub summary-called : grouped (partOf seven) ≡ gives sevenWords
   pub summary-defined : summaryOf seven ≡ sevenWords

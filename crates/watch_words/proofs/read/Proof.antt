@@ -13,7 +13,7 @@ use Rattle.watch_words.proofs.read.Tie as tie
 returns : tie.Need-returns
 returns c =
     let a = c .before .before .args in
-    let e = note-short (a .words .now) (c .if1 .taken) (a .distance) in
+    let e = note-short (a .words .now) (c .if1 .taken) (a .word) in
     (sym (ap (λ (v : Change). v .outcome) e), sym (ap (λ (v : Change). watchLeft (v .outcome) (v .watch) (a .words .now)) e))
 
 watch-in-requires : tie.Need-watch-in-requires
@@ -36,12 +36,12 @@ abbrev given : tie.After-was-counted → tie.Start
 given c = c .before .before .before .before .before .before .before
 
 -- what the update answers is the update of the watch in the words
-told : (c : tie.After-was-counted) → c .before .noted .result ≡ noteIn (given c .args .words .now) (given c .args .distance)
+told : (c : tie.After-was-counted) → c .before .noted .result ≡ noteIn (given c .args .words .now) (given c .args .word)
 told c =
     let n = c .before in
     n .noted .ensures ∙ ap (λ w. notedOf w (n .before .reading .result)) (n .before .before .watch-in .ensures)
     ∙ ap (notedOf (watchIn (given c .args .words .now))) (n .before .reading .ensures)
-    ∙ sym (note-all (given c .args .words .now) (n .before .before .before .before .if1 .left) (given c .args .distance))
+    ∙ sym (note-all (given c .args .words .now) (n .before .before .before .before .if1 .left) (given c .args .word))
 
 returns-2 : tie.Need-returns-2
 returns-2 c =

@@ -4,8 +4,7 @@ use Prim.Native.Nat.{_-_}
 use native.Mathlib.Omega.{arith}
 use mathlib.Core.Logic.{⊎-elim}
 use lib.ListN.{length}
-use Rattle.reuse_engine.proofs.Runs.{held-fits}
-use Rattle.after.proofs.Tracing.{Tracing, trace-start, trace-cold, trace-known, trace-end, written-length, not-full, not-bad, depth-small}
+use Rattle.after.proofs.Tracing.{Tracing, trace-start, trace-cold, trace-known, trace-end, written-length, held-small, not-full, not-bad, depth-small}
 use borrow.Author.Needs.{needs}
 use Rattle.after.proofs.passes.trace.Statement.{statement}
 use Rattle.after.proofs.passes.trace.Tie as tie
@@ -32,7 +31,13 @@ enum-told : tie.Need-enum-told Inv-loop μ-loop
 enum-told c = search needs
 
 add-held : tie.Need-add-held Inv-loop μ-loop
-add-held c = let h = c .before .before .before .before .before .before .before .before .loop .inv in omega (arith, held-fits _ _ _ _ _ _ (h .run), h .run .long)
+add-held c = omega (arith, held-small _ _ _ _ _ _ _ _ (c .before .before .before .before .before .before .before .before .loop .inv))
+
+cast-out : tie.Need-cast-out Inv-loop μ-loop
+cast-out c = record { fits = omega (arith, held-small _ _ _ _ _ _ _ _ (c .before .before .before .before .before .before .before .before .loop .inv)) }
+
+add-out : tie.Need-add-out Inv-loop μ-loop
+add-out c = record { fits = omega (arith, held-small _ _ _ _ _ _ _ _ (c .before .before .before .before .before .before .before .before .loop .inv)) }
 
 mul-out : tie.Need-mul-out Inv-loop μ-loop
 mul-out c = search needs
@@ -43,8 +48,8 @@ slice-write-out c = let h = c .before .before .before .before .before .before .b
 enum-known-place : tie.Need-enum-known-place Inv-loop μ-loop
 enum-known-place c = search needs
 
-cast-out : tie.Need-cast-out Inv-loop μ-loop
-cast-out c = let h = c .before .before .before .before .before .before .before .before .before .loop .inv in omega (arith, depth-small _ _ _ _ _ _ _ _ h (omega arith) (c .before .place .given .0 .0) (sym (c .before .before .before .before .before .touch .ensures .0) ∙ c .before .place .given .1))
+cast-out-2 : tie.Need-cast-out-2 Inv-loop μ-loop
+cast-out-2 c = let h = c .before .before .before .before .before .before .before .before .before .loop .inv in omega (arith, depth-small _ _ _ _ _ _ _ _ h (omega arith) (c .before .place .given .0 .0) (sym (c .before .before .before .before .before .touch .ensures .0) ∙ c .before .place .given .1))
 
 mul-out-2 : tie.Need-mul-out-2 Inv-loop μ-loop
 mul-out-2 c = search needs
@@ -112,10 +117,12 @@ trace-spec =
     touch-requires
     enum-told
     add-held
+    cast-out
+    add-out
     mul-out
     slice-write-out
     enum-known-place
-    cast-out
+    cast-out-2
     mul-out-2
     slice-write-out-2
     enum-told-2

@@ -15,11 +15,11 @@ use Rattle.session.proofs.Session.entered.Tie as tie
 element-copy-out-v : tie.Need-element-copy-out-v
 element-copy-out-v c = search needs
 
-cast-v : tie.Need-cast-v
-cast-v c = search needs
-
 cast-next : tie.Need-cast-next
 cast-next c = search needs
+
+cast-self : tie.Need-cast-self
+cast-self c = search needs
 
 mul-self : tie.Need-mul-self
 unfolding leaves extents marks
@@ -44,6 +44,10 @@ add-self c = search needs
 add-self-2 : tie.Need-add-self-2
 add-self-2 c = search needs
 
+add-t8 : tie.Need-add-t8
+unfolding leaves extents marks
+add-t8 c = let p = c .before .before .before .pre in record { fits = omega (arith, trued-root levels slotCount _ (p .trued) refl, p .few) }
+
 returns : tie.Need-returns
 unfolding leaves extents marks entered
 returns c =
@@ -55,8 +59,8 @@ entered-spec =
     tie.close
     (tie.spec
     element-copy-out-v
-    cast-v
     cast-next
+    cast-self
     mul-self
     element-write-self
     put-mark-requires
@@ -64,4 +68,5 @@ entered-spec =
     element-write-self-2
     add-self
     add-self-2
+    add-t8
     returns)

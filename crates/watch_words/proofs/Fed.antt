@@ -1,0 +1,78 @@
+-- A watch in words takes the words of the distance buffer as a watch takes the answers.
+use mathlib.Core.Path.{_≡_, refl, sym, ap, _∙_}
+use Prim.Native.Nat.{ℕ, suc, _+_, _≤_}
+use native.Mathlib.Omega.{arith}
+use mathlib.Core.List.{List, [], _∷_, map}
+use mathlib.Core.Bool.{Bool, true, false, cond}
+use lib.Dec.{eqb, leb}
+use lib.ListN.{length}
+use borrow.Author.Tests.{le-leb, lt-ltb, le-ltb}
+use Rattle.reuse.specs.Limits.{maxReads, maxExtents}
+use Rattle.reuse.specs.Lru.{Reuse, cold, at}
+use Rattle.reuse.specs.Written.{coldBase, wordOf}
+use Rattle.reuse.proofs.Lists.{by-test}
+use Rattle.reuse.proofs.Newcomers.{UpTo, AllUpTo}
+use Rattle.reuse_rows.specs.Rows.{putAt}
+use Rattle.watch.specs.declared.Watch.{Watch}
+use Rattle.watch.specs.declared.Reading.{Reading}
+use Rattle.watch.specs.declared.Reading.the-variants.{Cold, Distance}
+use Rattle.watch.specs.declared.Outcome.{Outcome}
+use Rattle.watch.specs.declared.Outcome.the-variants.{Counted, Refused as NotCounted}
+use Rattle.watch.specs.declared.Change.{Change}
+use Rattle.watch.specs.Watching.{soundOf, countedBy, takes, counts, notedOf, readingOf, watchAfter}
+use Rattle.watch_words.specs.Layout.{watchLength, watchLaid}
+use Rattle.watch_words.specs.Calls.{isColdWord, readingAt, noteIn, watchLeft, wordsAfter}
+use Rattle.watch_words.proofs.Kept.{note-kept, reading-is, not-above, by-number}
+
+-- the word of an answer within the limit is taken as the answer: a cold one without its number
+pub word-reading : (r : Reuse) → UpTo maxExtents r → readingAt (wordOf r) ≡ readingOf r
+word-reading (cold n) l =
+    reading-is (coldBase + n) true (simp (lt-ltb coldBase (coldBase + n) (omega (arith, l .0)), le-leb (coldBase + n) (coldBase + maxExtents) (omega (arith, l .1))))
+word-reading (at d) l = reading-is d false (not-above d (omega (arith, l .1)))
+
+-- words that held a watch hold another
+put-again : (v u : Watch) (w : List ℕ) → putAt (putAt w 0 (watchLaid v)) 0 (watchLaid u) ≡ putAt w 0 (watchLaid u)
+unfolding putAt watchLaid
+put-again v u w = refl
+
+-- a read more changes the watch only where it is counted
+counted-only : (v : Watch) (c h n : ℕ) → countedBy v c h .outcome ≡ NotCounted n → countedBy v c h .watch ≡ v
+unfolding countedBy
+counted-only v c h n e = by (eqb (v .reads) maxReads) refl
+  where
+    by : (b : Bool) → eqb (v .reads) maxReads ≡ b → countedBy v c h .watch ≡ v
+    by true f = simp f
+    by false f = let z : Counted ≡ NotCounted n = simp f at e in cc
+
+-- so does a reading that the watch takes
+counts-only : (v : Watch) (q : Reading) (n : ℕ) → counts v q .outcome ≡ NotCounted n → counts v q .watch ≡ v
+counts-only v Cold n e = counted-only v 1 0 n e
+counts-only v (Distance d) n e = counted-only v 0 (cond (leb d (v .size)) 1 0) n e
+
+-- and every update
+unchanged : (v : Watch) (q : Reading) (n : ℕ) → notedOf v q .outcome ≡ NotCounted n → notedOf v q .watch ≡ v
+unfolding notedOf
+unchanged v q n e =
+    by-test (soundOf v)
+    (λ s. by-test (takes q) (λ t. simp (s, t) (counts-only v q n (simp (s, t) at e))) (λ t. simp (s, t)))
+    (λ s. simp s)
+
+-- the words after one update
+left-put : (v : Watch) (q : Reading) (w : List ℕ)
+    → watchLeft (notedOf v q .outcome) (notedOf v q .watch) (putAt w 0 (watchLaid v)) ≡ putAt w 0 (watchLaid (notedOf v q .watch))
+left-put v q w = by (notedOf v q .outcome) refl
+  where
+    by : (o : Outcome) → notedOf v q .outcome ≡ o → watchLeft o (notedOf v q .watch) (putAt w 0 (watchLaid v)) ≡ putAt w 0 (watchLaid (notedOf v q .watch))
+    by Counted e = put-again v (notedOf v q .watch) w
+    by (NotCounted n) e = rw (unchanged v q n e)
+
+-- the words after a list of answers as the distance buffer writes them
+pub fed-words : (v : Watch) (w : List ℕ) → watchLength ≤ length w → (rs : List Reuse) → AllUpTo maxExtents rs
+    → wordsAfter (putAt w 0 (watchLaid v)) (map wordOf rs) ≡ putAt w 0 (watchLaid (watchAfter v rs))
+unfolding wordsAfter watchAfter AllUpTo
+fed-words v w l [] h = refl
+fed-words v w l (r ∷ rs) h =
+    let e : noteIn (putAt w 0 (watchLaid v)) (wordOf r) ≡ notedOf v (readingOf r) = note-kept v w l (wordOf r) ∙ ap (notedOf v) (word-reading r (h .0)) in
+    ap (λ (u : List ℕ). wordsAfter u (map wordOf rs))
+    (ap (λ (c : Change). watchLeft (c .outcome) (c .watch) (putAt w 0 (watchLaid v))) e ∙ left-put v (readingOf r) w)
+    ∙ fed-words (notedOf v (readingOf r) .watch) w l rs (h .1)
