@@ -1,15 +1,17 @@
--- The rows that 01 marks with a star. Each has two halves: what the calls answer, and what the log's own definitions give.
+-- The rows that 01 marks with a star, and 02's of newcomers. Each has two halves: what the calls answer, and what the log's own definitions give.
 use Prim.Native.Nat.{ℕ}
 use mathlib.Core.Path.{_≡_}
 use mathlib.Core.List.{List, [], _∷_, _++_, map}
 use lib.ListN.{replicate}
-use Rattle.reuse.specs.Lru.{cold, at, reuses}
+use Rattle.reuse.specs.Lru.{cold, at, reuses, distances}
+use Rattle.reuse.specs.Written.{wordOf}
 use Rattle.reuse.specs.Cache.{cacheMisses}
 use Rattle.reuse.specs.Summary.{summaryOf, joinOf}
 use Rattle.summary_calls.specs.declared.MissCount.the-variants.{Misses}
 use Rattle.summary_calls.specs.declared.HitShare.the-variants.{NoReads}
 use Rattle.summary_calls.specs.declared.ShareAnswer.the-variants.{Answered}
 use Rattle.summary_calls.specs.Calls.{joinCall, missesCall, shareCall}
+use Rattle.after.specs.Calls.{afterCall}
 use Rattle.session.specs.declared.Answer.the-variants.{Cold, Distance}
 use Rattle.session.specs.Sessions.{fresh}
 use Rattle.session.specs.Reads.{sumsRead}
@@ -43,6 +45,14 @@ backWords = 3 ∷ 2 ∷ 3 ∷ 9 ∷ 9 ∷ 3 ∷ 1 ∷ 0 ∷ []
 abbrev pub turnedWords : List ℕ
 turnedWords = 4 ∷ 2 ∷ 1 ∷ 2 ∷ 1 ∷ 2 ∷ 1 ∷ 1 ∷ []
 
+-- a part to be read after the first four
+abbrev pub later : List ℕ
+later = 3 ∷ 3 ∷ 9 ∷ 8 ∷ []
+
+-- well-formed words that no log has: first 4 and then 6, and last 6 and then 4, in two reads
+abbrev pub oddWords : List ℕ
+oddWords = 2 ∷ 2 ∷ 4 ∷ 6 ∷ 4 ∷ 6 ∷ 0 ∷ 0 ∷ []
+
 -- a part by its reads, its summary in a lent buffer of 20 words
 abbrev pub partOf : List ℕ → Grouping
 partOf reads = part reads (replicate 20 5)
@@ -56,7 +66,13 @@ pub record Table : Type 0 where
   pub reads-called : answersOf fresh seven ≡ Cold 1 ∷ Cold 2 ∷ Distance 2 9 ∷ Cold 3 ∷ Distance 3 8 ∷ Distance 1 8 ∷ Distance 2 7 ∷ []
   pub sums-called : map sumsRead (answersOf fresh seven) ≡ 0 ∷ 0 ∷ 9 ∷ 0 ∷ 8 ∷ 8 ∷ 7 ∷ []
   pub reads-defined : reuses [] seven ≡ cold 1 ∷ cold 2 ∷ at 2 ∷ cold 3 ∷ at 3 ∷ at 1 ∷ at 2 ∷ []
-  -- its summary: 7 3, F 7 3 9, R 9 3 7, H 1 2 1
+  -- 3 3 9 8 after the summary of 7 3 7 9: 3 1 2 and cold 4, written 65,540
+  pub later-called : outcome (afterCall frontWords later (replicate 20 5)) ≡ gives (3 ∷ 1 ∷ 2 ∷ 65_540 ∷ [])
+  pub later-defined : (distances front later ≡ at 3 ∷ at 1 ∷ at 2 ∷ cold 4 ∷ []) × (map wordOf (distances front later) ≡ 3 ∷ 1 ∷ 2 ∷ 65_540 ∷ [])
+  -- 6 9 after the words 2 2 4 6 4 6 0 0, which no log has: 2 and cold 3, written 65,539
+  pub odd-called : outcome (afterCall oddWords (6 ∷ 9 ∷ []) (replicate 20 5)) ≡ gives (2 ∷ 65_539 ∷ [])
+  pub odd-defined : (reuses (4 ∷ 6 ∷ []) (6 ∷ 9 ∷ []) ≡ at 2 ∷ cold 3 ∷ []) × ((t : List ℕ) → summaryOf t ≡ oddWords → ⊥)
+  -- the seven reads' summary: 7 3, F 7 3 9, R 9 3 7, H 1 2 1
   pub summary-called : grouped (partOf seven) ≡ gives sevenWords
   pub summary-defined : summaryOf seven ≡ sevenWords
   -- the summary of 7 3 7 9: 4 3, F 7 3 9, R 9 7 3, H 0 1 0
