@@ -164,5 +164,5 @@ module _ (s : Session) (w : Wide (s .first) (s .hist) (s .slots) (s .sums)) (x :
     pub cold-way : k ≡ slotCount → stepAt σ x (cold (suc (extents σ))) ≡ readOf s x
     cold-way e =
         let new : taken σ x ≡ stepAt σ x (cold (suc (extents σ))) =
-        unfold taken in rw (depth-absent x (stackOf σ) (not-held σ (m .kept) x (sym at-k ∙ e)), length-stack σ (m .kept)) in
+        unfold taken in ap (stepAt σ x) (depth-absent x (stackOf σ) (not-held σ (m .kept) x (sym at-k ∙ e)) ∙ ap (λ (n : ℕ). cold (suc n)) (length-stack σ (m .kept))) in
         sym new ∙ taken-is
