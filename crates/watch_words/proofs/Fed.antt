@@ -1,12 +1,12 @@
 -- A watch in words takes the words of the distance buffer as a watch takes the answers.
-use mathlib.Core.Path.{_≡_, refl, sym, ap, _∙_}
-use Prim.Native.Nat.{ℕ, suc, _+_, _≤_}
+use mathlib.Core.Path.{_≡_, refl, ap, _∙_}
+use Prim.Native.Nat.{ℕ, _+_, _≤_}
 use native.Mathlib.Omega.{arith}
 use mathlib.Core.List.{List, [], _∷_, map}
 use mathlib.Core.Bool.{Bool, true, false, cond}
 use lib.Dec.{eqb, leb}
 use lib.ListN.{length}
-use borrow.Author.Tests.{le-leb, lt-ltb, le-ltb}
+use borrow.Author.Tests.{le-leb, lt-ltb}
 use Rattle.reuse.specs.Limits.{maxReads, maxExtents}
 use Rattle.reuse.specs.Lru.{Reuse, cold, at}
 use Rattle.reuse.specs.Written.{coldBase, wordOf}
@@ -21,8 +21,8 @@ use Rattle.watch.specs.declared.Outcome.the-variants.{Counted, Refused as NotCo
 use Rattle.watch.specs.declared.Change.{Change}
 use Rattle.watch.specs.Watching.{soundOf, countedBy, takes, counts, notedOf, readingOf, watchAfter}
 use Rattle.watch_words.specs.Layout.{watchLength, watchLaid}
-use Rattle.watch_words.specs.Calls.{isColdWord, readingAt, noteIn, watchLeft, wordsAfter}
-use Rattle.watch_words.proofs.Kept.{note-kept, reading-is, not-above, by-number}
+use Rattle.watch_words.specs.Calls.{readingAt, noteIn, watchLeft, wordsAfter}
+use Rattle.watch_words.proofs.Kept.{note-kept, reading-is, not-above}
 
 -- the word of an answer within the limit is taken as the answer: a cold one without its number
 pub word-reading : (r : Reuse) → UpTo maxExtents r → readingAt (wordOf r) ≡ readingOf r

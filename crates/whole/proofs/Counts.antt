@@ -6,7 +6,7 @@ use mathlib.Core.Bool.{true}
 use lib.ListN.{length}
 use Rattle.reuse.specs.Limits.{maxExtents}
 use Rattle.reuse.specs.Cache.{hitCount}
-use Rattle.reuse.specs.Lru.{Reuse, cold, at, reuses}
+use Rattle.reuse.specs.Lru.{Reuse, reuses}
 use Rattle.reuse.specs.Summary.{summaryOf, readsOf, hitsOf, wellFormed}
 use Rattle.reuse.specs.Traces.{Within}
 use Rattle.reuse.proofs.Formed.{summary-formed, summary-well-formed}
