@@ -1,18 +1,21 @@
 #!/usr/bin/env python3
-"""Cuts a log into parts, summarizes them in several processes, and joins them in two groupings.
+"""Cuts a log into parts, summarizes them in several processes, and joins them in two groupings; answers the reads of
+each part after those before it, and says how the set of extents grows.
 
-Prints what comes out, which python/example.txt has as well. Exit status 1 where a grouping differs from the uncut log.
+Prints what comes out, which python/example.txt has as well. Exit status 1 where something differs from the uncut log.
 Run python/build first.
 """
 import multiprocessing
 import os
 import sys
+from array import array
 
 import jemqolu
 
 LOG = os.path.join(os.path.dirname(os.path.abspath(__file__)), "..", "examples", "skewed.log")
 LENGTHS = [1, 20_000, 0, 35_000, 9_999, 5_000, 30_000]
 SIZES = [0, 1, 16, 64, 128, 200]
+NUMBERS = [1, 50, 100, 150, 200]
 
 
 def reads_of(text):
@@ -45,6 +48,22 @@ def by_halves(summaries):
     return jemqolu.join(by_halves(summaries[:middle]), by_halves(summaries[middle:]))
 
 
+def answers_in_parts(parts, summaries):
+    """The words of all reads' answers, those of each part after the summary of the parts before it."""
+    words, prefix = array("I"), [0, 0]
+    for part, summary in zip(parts, summaries):
+        words += jemqolu.distances(prefix, part).words
+        prefix = jemqolu.join(prefix, summary)
+    return words
+
+
+def say_growth(answers):
+    """Says by which read the log has had so many different extents, for each of NUMBERS."""
+    for read, answer in enumerate(answers, 1):
+        if answer.number in NUMBERS:
+            print("different extents by read %d: %d" % (read, answer.number))
+
+
 def listed_misses(text):
     """The misses by size that the listing of the log text has."""
     rows = jemqolu.listing(text).decode("ascii").replace(")", "").splitlines()
@@ -52,7 +71,7 @@ def listed_misses(text):
 
 
 def compare(name, words, uncut):
-    """Says whether the words are those of the uncut log's summary."""
+    """Says whether the words are those of the uncut log."""
     print("%s: %s" % (name, "word for word the same" if words == uncut else "OTHER WORDS"))
     return words == uncut
 
@@ -72,13 +91,16 @@ def main():
     with open(LOG, encoding="ascii") as file:
         text = file.read()
     log = reads_of(text)
+    parts = parts_of(log)
     with multiprocessing.Pool(4) as pool:
-        summaries = pool.map(jemqolu.summarize, parts_of(log))
-    uncut = jemqolu.summarize(log)
+        summaries = pool.map(jemqolu.summarize, parts)
+    uncut, answers = jemqolu.summarize(log), jemqolu.distances([0, 0], log)
     print("%d reads of %d extents, cut into %d parts" % (uncut[0], uncut[1], len(summaries)))
     joined = one_after_the_other(summaries)
     same = compare("joined one after the other", joined, uncut)
     same = compare("joined by halves", by_halves(summaries), uncut) and same
+    same = compare("answers in parts", answers_in_parts(parts, summaries), answers.words) and same
+    say_growth(answers)
     same = compare_misses(joined, uncut, text) and same
     return 0 if same else 1
 

@@ -4,6 +4,9 @@ A log is a list of extents in the order read; an extent is a number from 0 to 4,
 the reads L, the number v of different extents, then v words F (the extents by first read), v words R (by last read, the
 latest first) and v words H (the word for d counts the reads of reuse distance d).
 
+A read is answered with an Answer: its reuse distance, or, for a cold read, its number, which is how many different
+extents the log has had, itself included.
+
 Words are any buffer of unsigned 32-bit words (array('I'), a numpy array of uint32, a memoryview of one), which is read
 where it stands, or any iterable of numbers, which is copied; they come back as an array('I'). Texts are any buffer of
 bytes (bytes, bytearray, mmap, array('B')), an iterable of numbers from 0 to 255, or a str, which is taken in UTF-8.
@@ -22,6 +25,7 @@ import ctypes
 import operator
 import os
 from array import array
+from collections.abc import Sequence
 from typing import NamedTuple
 
 MAX_READS = 1_048_576
@@ -32,6 +36,8 @@ MAX_PARTS = 16
 MAX_SEG = 1_048_576
 MAX_STORE = 1024
 MAX_CUSTOMERS = 8
+# a cold read is written as this plus its number, any other as its reuse distance
+COLD = 65_536
 SUMMARY_WORDS = 2 + 3 * MAX_EXTENTS
 LEVEL_WORDS = 1540
 WORK_WORDS = LEVEL_WORDS * MAX_JOINS
@@ -41,8 +47,9 @@ WATCH_WORDS = 4
 
 MEANINGS = {
     1: "a text line with which no text of the rule can go on, or an end too early",
-    2: "in a text an extent above 4,294,967,295 or a seg above 1,048,576; a number given to a watch that is no distance; "
-    "a store above 1,024; a number of customers that is not 1 to 8",
+    2: "in a text an extent above 4,294,967,295 or a seg above 1,048,576; a read's answer given to a watch that is "
+    "neither a distance from 1 to 256 nor cold with such a number; a store above 1,024; a number of customers that is "
+    "not 1 to 8",
     3: "the segs of a plan do not add up to the log",
     4: "a plan text over 65,536 bytes, a ninth join open, a seventeenth part of one join",
     5: "words that are not a well-formed summary",
@@ -244,11 +251,11 @@ def _share(name, *arguments):
     return share.value if _call(name, *arguments, ctypes.byref(share)) else None
 
 
-def _number(value):
-    """The value, where it is a number of 32 bits."""
+def _number(value, most=_MOST):
+    """The value, where it is a number from 0 to `most`, else OverflowError is raised."""
     number = operator.index(value)
-    if not 0 <= number <= _MOST:
-        raise OverflowError("not a number from 0 to 4,294,967,295: %d" % number)
+    if not 0 <= number <= most:
+        raise OverflowError("a number from 0 to {:,} is wanted".format(most))
     return number
 
 
@@ -267,6 +274,89 @@ def _end_to_end(summaries):
     return b"" if None in copies else b"".join(copies)
 
 
+class Answer:
+    """A read's answer, which cannot be changed. `word` is as the library writes it: a distance where it is below COLD,
+    otherwise COLD plus a cold read's number. A number that makes no such word raises OverflowError."""
+
+    __slots__ = ("word",)
+
+    def __new__(cls, word):
+        answer = super().__new__(cls)
+        object.__setattr__(answer, "word", _number(word))
+        return answer
+
+    @classmethod
+    def at(cls, distance):
+        """The answer of a read of this reuse distance."""
+        return cls(_number(distance, COLD - 1))
+
+    @classmethod
+    def newcomer(cls, number):
+        """The answer of a cold read of this number."""
+        return cls(COLD + _number(number, _MOST - COLD))
+
+    @property
+    def cold(self):
+        """Whether this is the first read of its extent."""
+        return self.word >= COLD
+
+    @property
+    def number(self):
+        """How many different extents the log has had, itself included, so 1 for the first; None where it is not cold."""
+        return self.word - COLD if self.cold else None
+
+    @property
+    def distance(self):
+        """The reuse distance; None where it is cold."""
+        return None if self.cold else self.word
+
+    def __setattr__(self, name, *value):
+        raise AttributeError("an Answer cannot be changed")
+
+    __delattr__ = __setattr__
+
+    def __reduce__(self):
+        return Answer, (self.word,)
+
+    def __eq__(self, other):
+        return self.word == other.word if isinstance(other, Answer) else NotImplemented
+
+    def __hash__(self):
+        return hash(self.word)
+
+    def __repr__(self):
+        return "Answer.newcomer(%d)" % self.number if self.cold else "Answer.at(%d)" % self.distance
+
+    def __str__(self):
+        return "cold %d" % self.number if self.cold else "%d" % self.distance
+
+
+class Answers(Sequence):
+    """The answers of reads, in their order. `words` is the array('I') that they stand in as the library wrote it, 4 bytes
+    each. An Answer is made when it is asked for; a slice is Answers with a copy of its words."""
+
+    _SHOWN = 8
+
+    def __init__(self, words):
+        if not isinstance(words, array) or words.typecode != "I":
+            raise TypeError("an array('I') of words is wanted")
+        self.words = words
+
+    def __len__(self):
+        return len(self.words)
+
+    def __getitem__(self, place):
+        found = self.words[place]
+        return Answers(found) if isinstance(found, array) else Answer(found)
+
+    def __eq__(self, other):
+        return self.words == other.words if isinstance(other, Answers) else NotImplemented
+
+    def __repr__(self):
+        shown = ", ".join(map(str, self[: self._SHOWN]))
+        return "<Answers [%s%s]>" % (shown, ", ... %d in all" % len(self) if len(self) > self._SHOWN else "")
+
+
 def summarize(reads):
     """The summary of a list of reads. Refusals: 8, 9."""
     return _written("summarize", _zeros(SUMMARY_WORDS), _words(reads))
@@ -278,10 +368,10 @@ def join(a, b):
 
 
 def distances(prefix, reads):
-    """The reuse distances of the reads after all that `prefix` sums up, 0 for a cold read; the summary [0, 0] is of no
-    reads. Refusals: 5, 8, 9."""
+    """The Answers of the reads after all that `prefix` sums up, whose extents the number of a cold read counts too; the
+    summary [0, 0] is of no reads. Refusals: 5, 8, 9."""
     with _words(reads) as part:
-        return _written("distances", _zeros(min(len(part), MAX_READS)), _words(prefix), part)
+        return Answers(_written("distances", _zeros(min(len(part), MAX_READS)), _words(prefix), part))
 
 
 def misses(words, size):
@@ -347,12 +437,12 @@ class Session:
         return session
 
     def read(self, extent):
-        """One more read: its reuse distance, 0 for a cold read. A refused read changes nothing. Refusals: 7, 8, 9."""
+        """One more read, and its Answer. A refused read changes nothing. Refusals: 7, 8, 9."""
         looked = ctypes.c_uint32(0)
         with _writable(self.words) as words:
-            distance = _call("session_read", words, _number(extent), ctypes.byref(looked))
+            word = _call("session_read", words, _number(extent), ctypes.byref(looked))
         self.sums_read = looked.value
-        return distance
+        return Answer(word)
 
     def summary(self):
         """The summary of the reads accepted. Refusal: 7."""
@@ -386,11 +476,15 @@ class Watch:
             watch.words = array("I", view.tobytes())
         return watch
 
-    def read(self, distance):
-        """One more read's distance, as Session.read and distances answer it: 0 for a cold read. Refusals: 7, 2, 8."""
-        number = operator.index(distance)
+    def read(self, answer):
+        """One more read, by its Answer, or by a whole number, which is a distance and never stands for a cold read.
+        Refusals: 7, 2, 8."""
+        if not isinstance(answer, Answer):
+            distance = operator.index(answer)
+            # any other number is refused as 0 is
+            answer = Answer.at(distance if 1 <= distance <= MAX_EXTENTS else 0)
         with _writable(self.words) as words:
-            _call("watch_read", words, number if 0 <= number <= MAX_EXTENTS else _MOST)
+            _call("watch_read", words, _number(answer.word))
 
     def misses(self):
         """The misses so far. Refusal: 7."""

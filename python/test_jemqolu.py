@@ -1,7 +1,8 @@
 #!/usr/bin/env python3
 """Tests of the wrapper: whatever it is handed, it answers, or raises, and never reads or writes memory that is not lent.
 
-Run python/build first. What the calls answer is compared with an independent implementation in tests/.
+Run python/build first. What the calls answer is compared with an independent implementation in tests/. The answers of
+reads and what a watch takes of them are tested in test_answers.py.
 """
 import ctypes
 import mmap
@@ -18,7 +19,7 @@ import jemqolu  # noqa: E402
 
 LOG = [7, 3, 7, 9, 3, 3, 9]
 SUMMARY = [7, 3, 7, 3, 9, 9, 3, 7, 1, 2, 1]
-DISTANCES = [0, 0, 2, 0, 3, 1, 2]
+WORDS = [65_537, 65_538, 2, 65_539, 3, 1, 2]
 TEXT = b"(trace\n (read 7)\n (read 3)\n (read 7)\n (read 9)\n (read 3)\n (read 3)\n (read 9))\n"
 LISTING = b"(sizing\n (reads 7)\n (cold 3)\n (at 1 6)\n (at 2 4)\n (at 3 3))\n"
 PLAN = b"(join\n (seg 4)\n (seg 3))\n"
@@ -64,7 +65,7 @@ def texts_in_all_forms(text):
 def not_words():
     """What is no buffer of words and no iterable of numbers."""
     yield from (None, 5, 2.5, object(), "7373", ["7"], [7.0], [None], [[7]], [b"7"])
-    yield from (b"\0" * 8, bytearray(8), memoryview(bytes(8)))
+    yield from (b"\0" * 8, bytearray(8), memoryview(bytes(8)), jemqolu.Answers(array("I", WORDS)))
     yield from (array(code, [1, 2]) for code in "bBhHilLqQfd")
     yield memoryview(array("I", range(8)))[::2]
     yield memoryview(array("I", range(8)))[::-1]
@@ -107,12 +108,12 @@ class Refusing(unittest.TestCase):
         self.assertEqual(caught.exception.number, number)
 
 
-class Answers(Refusing):
+class Calls(Refusing):
     def test_words_in_all_forms(self):
         for log in words_in_all_forms(LOG):
             self.assertEqual(jemqolu.summarize(log).tolist(), SUMMARY)
         for log in words_in_all_forms(LOG):
-            self.assertEqual(jemqolu.distances([0, 0], log).tolist(), DISTANCES)
+            self.assertEqual(jemqolu.distances([0, 0], log).words.tolist(), WORDS)
         for log in words_in_all_forms(LOG):
             self.assertEqual(jemqolu.plan(PLAN, log).tolist(), SUMMARY)
         for summary in words_in_all_forms(SUMMARY):
@@ -161,7 +162,7 @@ class Answers(Refusing):
         for none in words_in_all_forms([]):
             self.assertEqual(jemqolu.summarize(none).tolist(), [0, 0])
         for none in words_in_all_forms([]):
-            self.assertEqual(jemqolu.distances([0, 0], none).tolist(), [])
+            self.assertEqual(jemqolu.distances([0, 0], none).words.tolist(), [])
         for none in words_in_all_forms([]):
             self.refused(5, jemqolu.misses, none, 1)
         for none in texts_in_all_forms(b""):
@@ -172,28 +173,13 @@ class Answers(Refusing):
     def test_sessions(self):
         session = jemqolu.Session()
         self.assertEqual((session.misses(2), session.share(2)), (0, None))
-        self.assertEqual([session.read(extent) for extent in LOG], DISTANCES)
+        self.assertEqual([session.read(extent).word for extent in LOG], WORDS)
         self.assertEqual((session.sums_read, session.summary().tolist()), (7, SUMMARY))
         for size in (0, 1, 2, 3, 4, 256, MOST):
             self.assertEqual(session.misses(size), jemqolu.misses(SUMMARY, size))
             self.assertEqual(session.share(size), jemqolu.share(SUMMARY, size))
-        self.assertEqual(jemqolu.Session.resume(session.words).read(7), 3)
+        self.assertEqual(jemqolu.Session.resume(session.words).read(7).distance, 3)
         self.assertEqual(pickle.loads(pickle.dumps(session)).misses(2), 4)
-
-    def test_watches(self):
-        watch = jemqolu.Watch(2)
-        self.assertIsNone(watch.share())
-        for distance in DISTANCES:
-            watch.read(distance)
-        self.assertEqual((watch.misses(), watch.share()), (4, 3 / 7))
-        for number in (-1, 257, MOST, MOST + 1, -MOST, 1 << 32, (1 << 32) + 1, 1 << 64, -(1 << 200)):
-            self.refused(2, watch.read, number)
-        self.assertEqual(watch.words.tolist(), [2, 7, 3, 3])
-        watch.words[1] = 1
-        self.refused(7, watch.read, -1)
-        full = jemqolu.Watch.resume([2, jemqolu.MAX_READS, 1, 1])
-        self.refused(2, full.read, 257)
-        self.refused(8, full.read, 0)
 
     def test_refusals_and_their_meanings(self):
         self.assertEqual(sorted(jemqolu.MEANINGS), list(range(1, 11)))
@@ -300,17 +286,15 @@ class WrongKinds(unittest.TestCase):
         self.assertRaises(OverflowError, jemqolu.listing, [-1])
 
     def test_sizes_and_extents(self):
-        session, watch = session_of(LOG), jemqolu.Watch(2)
+        session = session_of(LOG)
         calls = (lambda size: jemqolu.misses(SUMMARY, size), lambda size: jemqolu.share(SUMMARY, size))
         calls += (session.misses, session.share, session.read, jemqolu.Watch)
         for call in calls:
-            for number in (-1, MOST + 1, 1 << 64):
+            for number in (-1, MOST + 1, 1 << 64, 1 << 20_000):
                 self.assertRaises(OverflowError, call, number)
-            for number in (None, 2.0, "2", [2]):
+            for number in (None, 2.0, "2", [2], jemqolu.Answer.at(2)):
                 self.assertRaises(TypeError, call, number)
             call(Index(MOST)), call(True)
-        for number in (None, 2.0, "2", [2]):
-            self.assertRaises(TypeError, watch.read, number)
 
     def test_words_out_of_place(self):
         words = memoryview(bytearray(4 * 2050))[1 : 1 + 4 * 2049].cast("I")
@@ -388,10 +372,10 @@ class States(unittest.TestCase):
         whole = bytearray(b"\xff" * 8) + session_of(LOG).words.tobytes() + bytearray(b"\xff" * 8)
         session = jemqolu.Session()
         session.words = memoryview(whole)[8:].cast("I")
-        self.assertEqual(session.read(7), 3)
+        self.assertEqual(session.read(7).distance, 3)
         self.assertEqual((whole[:8], whole[-8:]), (b"\xff" * 8, b"\xff" * 8))
         session.words = (ctypes.c_uint32 * 2049)(*session.words[:2049])
-        self.assertEqual((session.read(7), session.misses(0)), (1, 9))
+        self.assertEqual((session.read(7).distance, session.misses(0)), (1, 9))
 
 
 class Threads(unittest.TestCase):

@@ -13,21 +13,22 @@ class CompactedEngine {
 
     uint32_t read(uint32_t extent) {
         if (next_ == held_.size()) compact();
-        uint32_t distance = 0;
         auto [place, cold] = number_.try_emplace(extent, static_cast<uint32_t>(slot_.size()));
         uint32_t number = place->second;
+        uint32_t answer = 0;
         if (cold) {
             slot_.push_back(next_);
             extent_.push_back(extent);
+            answer = COLD + static_cast<uint32_t>(slot_.size());
         } else {
-            distance = static_cast<uint32_t>(slot_.size()) - tree_.upto(slot_[number]) + 1;
+            answer = static_cast<uint32_t>(slot_.size()) - tree_.upto(slot_[number]) + 1;
             tree_.add(slot_[number], -1u);
             slot_[number] = next_;
         }
         tree_.add(next_, 1);
         held_[next_] = number;
         next_ += 1;
-        return distance;
+        return answer;
     }
 
     std::vector<uint32_t> recent() const {

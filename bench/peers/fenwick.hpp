@@ -1,5 +1,6 @@
 // A Fenwick tree over time: each extent has a mark at its last read, and its distance is 1 plus the marks after that.
 #pragma once
+#include "words.hpp"
 #include <algorithm>
 #include <cstddef>
 #include <cstdint>
@@ -42,16 +43,17 @@ class FenwickEngine {
     explicit FenwickEngine(size_t count) : tree_(count) { last_.reserve(512); }
 
     uint32_t read(uint32_t extent) {
-        uint32_t distance = 0;
         auto [place, cold] = last_.try_emplace(extent, now_);
+        uint32_t extents = static_cast<uint32_t>(last_.size());
+        uint32_t answer = COLD + extents;
         if (!cold) {
-            distance = static_cast<uint32_t>(last_.size()) - tree_.upto(place->second) + 1;
+            answer = extents - tree_.upto(place->second) + 1;
             tree_.add(place->second, -1u);
             place->second = now_;
         }
         tree_.add(now_, 1);
         now_ += 1;
-        return distance;
+        return answer;
     }
 
     std::vector<uint32_t> recent() const {

@@ -14,11 +14,11 @@ int main() {
     uint32_t reads = 0;
     while (std::getline(std::cin, line)) {
         if (line.compare(0, 7, " (read ") != 0) continue;
-        uint32_t distance = engine.read(static_cast<uint32_t>(strtoul(line.c_str() + 7, nullptr, 10)));
-        if (distance == 0) {
+        uint32_t answer = engine.read(static_cast<uint32_t>(strtoul(line.c_str() + 7, nullptr, 10)));
+        if (answer > COLD) {
             counts.push_back(0);
         } else {
-            counts[distance - 1] += 1;
+            counts[answer - 1] += 1;
         }
         reads += 1;
     }

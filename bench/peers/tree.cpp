@@ -18,16 +18,16 @@ class TreeEngine {
     explicit TreeEngine(size_t) { last_.reserve(512); }
 
     uint32_t read(uint32_t extent) {
-        uint32_t distance = 0;
         auto [place, cold] = last_.try_emplace(extent, now_);
+        uint32_t answer = COLD + static_cast<uint32_t>(last_.size());
         if (!cold) {
-            distance = static_cast<uint32_t>(times_.order_of_key(place->second)) + 1;
+            answer = static_cast<uint32_t>(times_.order_of_key(place->second)) + 1;
             times_.erase(place->second);
             place->second = now_;
         }
         times_.insert({now_, extent});
         now_ += 1;
-        return distance;
+        return answer;
     }
 
     std::vector<uint32_t> recent() const {
