@@ -25,8 +25,11 @@ import ctypes
 import operator
 import os
 from array import array
-from collections.abc import Sequence
 from typing import NamedTuple
+
+from jemqolu_answers import COLD_BASE, Answer, Answers  # noqa: F401
+from jemqolu_answers import MOST as _MOST
+from jemqolu_answers import number_of as _number
 
 MAX_READS = 1_048_576
 MAX_EXTENTS = 256
@@ -36,8 +39,6 @@ MAX_PARTS = 16
 MAX_SEG = 1_048_576
 MAX_STORE = 1024
 MAX_CUSTOMERS = 8
-# a cold read is written as this plus its number, any other as its reuse distance
-COLD = 65_536
 SUMMARY_WORDS = 2 + 3 * MAX_EXTENTS
 LEVEL_WORDS = 1540
 WORK_WORDS = LEVEL_WORDS * MAX_JOINS
@@ -141,7 +142,6 @@ _LOCKED = _load(ctypes.PyDLL(_path()))
 _UNLOCKED = _load(ctypes.CDLL(_path()))
 # the address that goes with a length of 0
 _NOTHING = ctypes.c_uint64(0)
-_MOST = 4_294_967_295
 
 
 class _Cells:
@@ -251,14 +251,6 @@ def _share(name, *arguments):
     return share.value if _call(name, *arguments, ctypes.byref(share)) else None
 
 
-def _number(value, most=_MOST):
-    """The value, where it is a number from 0 to `most`, else OverflowError is raised."""
-    number = operator.index(value)
-    if not 0 <= number <= most:
-        raise OverflowError("a number from 0 to {:,} is wanted".format(most))
-    return number
-
-
 def _copied(words):
     """The words of one summary as bytes, or None where there are not 2 + 3 v of them."""
     with _words(words) as view:
@@ -272,89 +264,6 @@ def _end_to_end(summaries):
     summary, so that the library refuses them in its order."""
     copies = [_copied(words) for words in summaries]
     return b"" if None in copies else b"".join(copies)
-
-
-class Answer:
-    """A read's answer, which cannot be changed. `word` is as the library writes it: a distance where it is below COLD,
-    otherwise COLD plus a cold read's number. A number that makes no such word raises OverflowError."""
-
-    __slots__ = ("word",)
-
-    def __new__(cls, word):
-        answer = super().__new__(cls)
-        object.__setattr__(answer, "word", _number(word))
-        return answer
-
-    @classmethod
-    def at(cls, distance):
-        """The answer of a read of this reuse distance."""
-        return cls(_number(distance, COLD - 1))
-
-    @classmethod
-    def newcomer(cls, number):
-        """The answer of a cold read of this number."""
-        return cls(COLD + _number(number, _MOST - COLD))
-
-    @property
-    def cold(self):
-        """Whether this is the first read of its extent."""
-        return self.word >= COLD
-
-    @property
-    def number(self):
-        """How many different extents the log has had, itself included, so 1 for the first; None where it is not cold."""
-        return self.word - COLD if self.cold else None
-
-    @property
-    def distance(self):
-        """The reuse distance; None where it is cold."""
-        return None if self.cold else self.word
-
-    def __setattr__(self, name, *value):
-        raise AttributeError("an Answer cannot be changed")
-
-    __delattr__ = __setattr__
-
-    def __reduce__(self):
-        return Answer, (self.word,)
-
-    def __eq__(self, other):
-        return self.word == other.word if isinstance(other, Answer) else NotImplemented
-
-    def __hash__(self):
-        return hash(self.word)
-
-    def __repr__(self):
-        return "Answer.newcomer(%d)" % self.number if self.cold else "Answer.at(%d)" % self.distance
-
-    def __str__(self):
-        return "cold %d" % self.number if self.cold else "%d" % self.distance
-
-
-class Answers(Sequence):
-    """The answers of reads, in their order. `words` is the array('I') that they stand in as the library wrote it, 4 bytes
-    each. An Answer is made when it is asked for; a slice is Answers with a copy of its words."""
-
-    _SHOWN = 8
-
-    def __init__(self, words):
-        if not isinstance(words, array) or words.typecode != "I":
-            raise TypeError("an array('I') of words is wanted")
-        self.words = words
-
-    def __len__(self):
-        return len(self.words)
-
-    def __getitem__(self, place):
-        found = self.words[place]
-        return Answers(found) if isinstance(found, array) else Answer(found)
-
-    def __eq__(self, other):
-        return self.words == other.words if isinstance(other, Answers) else NotImplemented
-
-    def __repr__(self):
-        shown = ", ".join(map(str, self[: self._SHOWN]))
-        return "<Answers [%s%s]>" % (shown, ", ... %d in all" % len(self) if len(self) > self._SHOWN else "")
 
 
 def summarize(reads):

@@ -13,7 +13,7 @@ from array import array
 
 sys.dont_write_bytecode = True
 import jemqolu  # noqa: E402
-from jemqolu import COLD, MAX_EXTENTS, Answer, Answers  # noqa: E402
+from jemqolu import COLD_BASE, MAX_EXTENTS, Answer, Answers  # noqa: E402
 from test_jemqolu import LOG, MOST, SUMMARY, WORDS, Index, Refusing, session_of  # noqa: E402
 
 ROW = [
@@ -106,7 +106,7 @@ class Reads(Refusing):
         session, answers = jemqolu.Session(), jemqolu.distances([0, 0], log)
         self.assertEqual(list(answers), newcomers)
         self.assertEqual([session.read(extent) for extent in log], newcomers)
-        self.assertEqual((answers[-1].word, answers[-1].number), (COLD + MAX_EXTENTS, MAX_EXTENTS))
+        self.assertEqual((answers[-1].word, answers[-1].number), (COLD_BASE + MAX_EXTENTS, MAX_EXTENTS))
         self.assertEqual(list(jemqolu.distances(jemqolu.summarize(log[:-1]), log[-1:])), newcomers[-1:])
         self.assertEqual(session.read(0), Answer.at(MAX_EXTENTS))
         self.refused(9, session.read, MAX_EXTENTS)
@@ -115,11 +115,11 @@ class Reads(Refusing):
 
 class OneAnswer(unittest.TestCase):
     def test_the_two_kinds(self):
-        for number in (0, 1, 3, MAX_EXTENTS, MAX_EXTENTS + 1, COLD, MOST - COLD):
+        for number in (0, 1, 3, MAX_EXTENTS, MAX_EXTENTS + 1, COLD_BASE, MOST - COLD_BASE):
             answer = Answer.newcomer(Index(number))
             self.assertEqual((answer.cold, answer.number, answer.distance), (True, number, None))
-            self.assertEqual((answer.word, Answer(answer.word)), (COLD + number, answer))
-        for distance in (0, 1, 2, MAX_EXTENTS, MAX_EXTENTS + 1, COLD - 1):
+            self.assertEqual((answer.word, Answer(answer.word)), (COLD_BASE + number, answer))
+        for distance in (0, 1, 2, MAX_EXTENTS, MAX_EXTENTS + 1, COLD_BASE - 1):
             answer = Answer.at(Index(distance))
             self.assertEqual((answer.cold, answer.number, answer.distance), (False, None, distance))
             self.assertEqual((answer.word, Answer(answer.word)), (distance, answer))
@@ -129,9 +129,9 @@ class OneAnswer(unittest.TestCase):
             for make in (Answer, Answer.at, Answer.newcomer):
                 self.assertRaises(OverflowError, make, number)
                 self.assertRaises(OverflowError, make, Index(number))
-        for distance in (COLD, COLD + 1, MOST):
+        for distance in (COLD_BASE, COLD_BASE + 1, MOST):
             self.assertRaises(OverflowError, Answer.at, distance)
-        for number in (MOST - COLD + 1, MOST, -COLD):
+        for number in (MOST - COLD_BASE + 1, MOST, -COLD_BASE):
             self.assertRaises(OverflowError, Answer.newcomer, number)
         for number in (None, 2.0, "2", b"2", [2], Answer.at(2)):
             for make in (Answer, Answer.at, Answer.newcomer):
@@ -140,7 +140,7 @@ class OneAnswer(unittest.TestCase):
     def test_what_it_prints(self):
         self.assertEqual([repr(ROW[3]), repr(ROW[4])], ["Answer.newcomer(3)", "Answer.at(3)"])
         self.assertEqual([str(ROW[3]), str(ROW[4])], ["cold 3", "3"])
-        for word in (0, 1, MAX_EXTENTS, COLD - 1, COLD, COLD + 1, COLD + MAX_EXTENTS, MOST):
+        for word in (0, 1, MAX_EXTENTS, COLD_BASE - 1, COLD_BASE, COLD_BASE + 1, COLD_BASE + MAX_EXTENTS, MOST):
             self.assertEqual(eval(repr(Answer(word)), {"Answer": Answer}), Answer(word))
 
     def test_equality_and_hash(self):
@@ -148,7 +148,7 @@ class OneAnswer(unittest.TestCase):
         self.assertEqual(len({*ROW, *jemqolu.distances([0, 0], LOG)}), 6)
         self.assertEqual({Answer.at(2): "a"}[Answer(2)], "a")
         self.assertNotEqual(Answer.at(3), Answer.newcomer(3))
-        for other in (2, 2.0, None, "2", (2,), Index(2), COLD + 2):
+        for other in (2, 2.0, None, "2", (2,), Index(2), COLD_BASE + 2):
             self.assertNotEqual(Answer.at(2), other)
             self.assertNotEqual(Answer.newcomer(2), other)
 
@@ -199,7 +199,7 @@ class ManyAnswers(unittest.TestCase):
         self.assertEqual([list(self.answers), list(reversed(self.answers))], [ROW, ROW[::-1]])
         self.assertEqual([self.answers.count(Answer.at(2)), self.answers.index(Answer.at(2), 3)], [2, 6])
         self.assertTrue(all(answer in self.answers for answer in ROW))
-        for other in (Answer.newcomer(4), Answer.at(4), 2, COLD + 1, None):
+        for other in (Answer.newcomer(4), Answer.at(4), 2, COLD_BASE + 1, None):
             self.assertNotIn(other, self.answers)
 
     def test_equality(self):
@@ -267,10 +267,12 @@ class Watches(Refusing):
 
     def refused_numbers(self):
         """Answers and numbers that a watch refuses, however many reads it has."""
-        yield from map(Answer, (0, 257, COLD - 1, COLD, COLD + MAX_EXTENTS + 1, 2 * COLD, 2 * COLD + 1, MOST))
-        yield from (Answer.at(0), Answer.at(257), Answer.newcomer(0), Answer.newcomer(257), Answer.newcomer(MOST - COLD))
-        yield from (0, -1, 257, COLD, COLD + 1, COLD + MAX_EXTENTS, MOST, MOST + 1, MOST + 2, MOST + 1 + COLD + 1)
-        yield from (False, -MOST, 1 - COLD, 1 << 64, (1 << 64) + 1, -(1 << 200), 1 << 20_000, Index(0), Index(COLD + 1))
+        above = COLD_BASE + MAX_EXTENTS + 1
+        yield from map(Answer, (0, 257, COLD_BASE - 1, COLD_BASE, above, 2 * COLD_BASE, 2 * COLD_BASE + 1, MOST))
+        yield from (Answer.at(0), Answer.at(257), Answer.newcomer(0), Answer.newcomer(257))
+        yield from (0, -1, 257, COLD_BASE, COLD_BASE + 1, above - 1, MOST, MOST + 1, MOST + 2, MOST + 2 + COLD_BASE)
+        yield from (False, -MOST, 1 - COLD_BASE, 1 << 64, (1 << 64) + 1, -(1 << 200), 1 << 20_000)
+        yield from (Answer.newcomer(MOST - COLD_BASE), Index(0), Index(COLD_BASE + 1))
 
     def test_refusals_in_order(self):
         watch, full = jemqolu.Watch.resume([2, 7, 3, 3]), jemqolu.Watch.resume([2, jemqolu.MAX_READS, 1, 1])

@@ -12,7 +12,7 @@ class ArrayStackEngine {
         auto place = std::find(stack_.begin(), stack_.end(), extent);
         if (place == stack_.end()) {
             stack_.insert(stack_.begin(), extent);
-            return COLD + static_cast<uint32_t>(stack_.size());
+            return COLD_BASE + static_cast<uint32_t>(stack_.size());
         }
         std::move_backward(stack_.begin(), place, place + 1);
         stack_.front() = extent;

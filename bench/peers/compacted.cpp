@@ -19,7 +19,7 @@ class CompactedEngine {
         if (cold) {
             slot_.push_back(next_);
             extent_.push_back(extent);
-            answer = COLD + static_cast<uint32_t>(slot_.size());
+            answer = COLD_BASE + static_cast<uint32_t>(slot_.size());
         } else {
             answer = static_cast<uint32_t>(slot_.size()) - tree_.upto(slot_[number]) + 1;
             tree_.add(slot_[number], -1u);

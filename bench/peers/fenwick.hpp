@@ -45,7 +45,7 @@ class FenwickEngine {
     uint32_t read(uint32_t extent) {
         auto [place, cold] = last_.try_emplace(extent, now_);
         uint32_t extents = static_cast<uint32_t>(last_.size());
-        uint32_t answer = COLD + extents;
+        uint32_t answer = COLD_BASE + extents;
         if (!cold) {
             answer = extents - tree_.upto(place->second) + 1;
             tree_.add(place->second, -1u);

@@ -17,7 +17,7 @@ class LinkedStackEngine {
             return depth;
         }
         stack_.push_front(extent);
-        return COLD + static_cast<uint32_t>(stack_.size());
+        return COLD_BASE + static_cast<uint32_t>(stack_.size());
     }
 
     std::vector<uint32_t> recent() const { return {stack_.begin(), stack_.end()}; }

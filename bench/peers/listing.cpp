@@ -15,7 +15,7 @@ int main() {
     while (std::getline(std::cin, line)) {
         if (line.compare(0, 7, " (read ") != 0) continue;
         uint32_t answer = engine.read(static_cast<uint32_t>(strtoul(line.c_str() + 7, nullptr, 10)));
-        if (answer > COLD) {
+        if (answer > COLD_BASE) {
             counts.push_back(0);
         } else {
             counts[answer - 1] += 1;

@@ -19,7 +19,7 @@ class TreeEngine {
 
     uint32_t read(uint32_t extent) {
         auto [place, cold] = last_.try_emplace(extent, now_);
-        uint32_t answer = COLD + static_cast<uint32_t>(last_.size());
+        uint32_t answer = COLD_BASE + static_cast<uint32_t>(last_.size());
         if (!cold) {
             answer = static_cast<uint32_t>(times_.order_of_key(place->second)) + 1;
             times_.erase(place->second);

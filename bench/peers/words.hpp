@@ -1,6 +1,6 @@
 // The words of a summary and of distances, from an engine that answers one read at a time:
 //   Engine(count)   for a trace of so many reads
-//   read(extent)    the reuse distance, or COLD plus the number of a cold read
+//   read(extent)    the reuse distance, or COLD_BASE plus the number of a cold read
 //   recent()        the extents by last read, the latest first
 #pragma once
 #include <algorithm>
@@ -9,14 +9,14 @@
 #include <vector>
 
 // A cold read is written as this plus its number: how many different extents the trace has had, its own included.
-constexpr uint32_t COLD = 65536;
+constexpr uint32_t COLD_BASE = 65536;
 
 template <class Engine> size_t summary_words(const uint32_t *reads, size_t count, uint32_t *out) {
     Engine engine(count);
     std::vector<uint32_t> first, counts;
     for (size_t i = 0; i < count; i++) {
         uint32_t answer = engine.read(reads[i]);
-        if (answer > COLD) {
+        if (answer > COLD_BASE) {
             first.push_back(reads[i]);
             counts.push_back(0);
         } else {
