@@ -160,7 +160,7 @@ int64_t jemqolu_session_share(const uint32_t *session, size_t session_len, uint3
 int64_t jemqolu_watch_new(uint32_t size, uint32_t *watch, size_t watch_len);
 
 /* One more read's word, as jemqolu_session_read answers and jemqolu_distances writes it: a distance from 1 to 256, or
- * JEMQOLU_COLD plus a number from 1 to 256 for a cold read, whatever the number.
+ * for a cold read JEMQOLU_COLD plus a number from 1 to 256, which makes no difference.
  * Lent: the watch, which is changed there. Answer: 0. Refusals, in order: -7, -2, -8. */
 int64_t jemqolu_watch_read(uint32_t *watch, size_t watch_len, uint32_t word);
 
