@@ -1,6 +1,6 @@
-/* A first program: two parts of a log summarized and joined, the distances of the second after the first, the misses of
- * every cache size, the same by a joining plan, the listing of a log text, a session read by read, and refusals. Built
- * and run from the root of the repository, once `rt staticlib capi` has built the library:
+/* A first program: two parts of a log summarized and joined, the distances of each part after what was read before it,
+ * the misses of every cache size, the same by a joining plan, the listing of a log text, a session read by read, and
+ * refusals. Built and run from the root of the repository, once `rt staticlib capi` has built the library:
  *   gcc -Wall -Wextra -Iinclude -o target/first examples/first.c target/staticlib/libcapi.a && target/first
  * It prints what examples/first.txt has. */
 #include <inttypes.h>
@@ -9,6 +9,9 @@
 #include <string.h>
 
 #include "jemqolu.h"
+
+/* The most reads of a part here. */
+#define PART_READS 4
 
 /* What was asked for; a refusal ends the program. */
 static size_t accepted(int64_t answer, const char *what) {
@@ -22,6 +25,23 @@ static size_t accepted(int64_t answer, const char *what) {
 static void print_words(const char *name, const uint32_t *words, size_t count) {
     printf("%s:", name);
     for (size_t i = 0; i < count; i++) printf(" %" PRIu32, words[i]);
+    printf("\n");
+}
+
+/* The distances of a part's reads after a prefix; a cold read is printed as cold and its number. */
+static void print_distances(const char *name, const uint32_t *prefix, size_t prefix_len, const uint32_t *reads,
+                            size_t count) {
+    uint32_t words[PART_READS];
+    size_t written = accepted(jemqolu_distances(prefix, prefix_len, reads, count, words, PART_READS), name);
+    printf("%s:", name);
+    for (size_t i = 0; i < written; i++) {
+        const char *comma = i > 0 ? "," : "";
+        if (words[i] > JEMQOLU_COLD) {
+            printf("%s cold %" PRIu32, comma, words[i] - JEMQOLU_COLD);
+        } else {
+            printf("%s %" PRIu32, comma, words[i]);
+        }
+    }
     printf("\n");
 }
 
@@ -60,13 +80,13 @@ static void read_one_by_one(const uint32_t *log, size_t count) {
     accepted(jemqolu_watch_new(2, watch, JEMQOLU_WATCH_WORDS), "watch");
     for (size_t i = 0; i < count; i++) {
         int64_t answer = jemqolu_session_read(session, JEMQOLU_SESSION_WORDS, log[i], &sums_read);
-        uint32_t distance = (uint32_t)accepted(answer, "read");
-        accepted(jemqolu_watch_read(watch, JEMQOLU_WATCH_WORDS, distance), "watch");
+        uint32_t word = (uint32_t)accepted(answer, "read");
+        accepted(jemqolu_watch_read(watch, JEMQOLU_WATCH_WORDS, word), "watch");
         printf("read %" PRIu32 ": ", log[i]);
-        if (distance == 0) {
-            printf("cold\n");
+        if (word > JEMQOLU_COLD) {
+            printf("cold, extent number %" PRIu32 "\n", word - JEMQOLU_COLD);
         } else {
-            printf("distance %" PRIu32 "\n", distance);
+            printf("distance %" PRIu32 "\n", word);
         }
     }
     int64_t words = jemqolu_session_summary(session, JEMQOLU_SESSION_WORDS, summary, JEMQOLU_SUMMARY_WORDS);
@@ -93,15 +113,17 @@ static void print_refusals(const uint32_t *summary, size_t count) {
 
 int main(void) {
     const uint32_t log[] = {7, 3, 7, 9, 3, 3, 9};
-    uint32_t a[JEMQOLU_SUMMARY_WORDS], b[JEMQOLU_SUMMARY_WORDS], whole[JEMQOLU_SUMMARY_WORDS], distances[3];
+    const uint32_t none[] = {0, 0}, more[] = {8, 7};
+    uint32_t a[JEMQOLU_SUMMARY_WORDS], b[JEMQOLU_SUMMARY_WORDS], whole[JEMQOLU_SUMMARY_WORDS];
     size_t a_len = accepted(jemqolu_summarize(log, 4, a, JEMQOLU_SUMMARY_WORDS), "the first part");
     size_t b_len = accepted(jemqolu_summarize(log + 4, 3, b, JEMQOLU_SUMMARY_WORDS), "the second part");
     size_t len = accepted(jemqolu_join(a, a_len, b, b_len, whole, JEMQOLU_SUMMARY_WORDS), "the join");
     print_words("first part", a, a_len);
     print_words("second part", b, b_len);
     print_words("both joined", whole, len);
-    size_t reads = accepted(jemqolu_distances(a, a_len, log + 4, 3, distances, 3), "the second part's distances");
-    print_words("distances in the second part", distances, reads);
+    print_distances("distances in the first part", none, 2, log, 4);
+    print_distances("distances in the second part", a, a_len, log + 4, 3);
+    print_distances("distances of 8 and 7 after both", whole, len, more, 2);
     print_misses(whole, len);
     print_plan(log, 7);
     print_listing();

@@ -4,6 +4,9 @@
  * the reads L, the number v of different extents, then v words F (the extents by first read), v words R (by last read,
  * the latest first) and v words H (the word for d counts the reads of reuse distance d): 2 + 3 v words in all.
  *
+ * A read's word is its reuse distance, 1 to 256, or for a cold read, the first of its extent, JEMQOLU_COLD plus its
+ * number: how many different extents the log has had, its own included. So a log's first read has the number 1.
+ *
  * Every call takes any input. A slice is a pointer and then how many elements it has; a length of 0 may come with any
  * pointer that is not NULL. No pointer may be NULL, each is aligned as its type asks, and what a call writes to must
  * overlap nothing else that it is lent.
@@ -28,8 +31,9 @@ extern "C" {
 /* The refusals. An answer of -JEMQOLU_REFUSED_ROOM, say, is the sixth. */
 enum jemqolu_refusal {
     JEMQOLU_REFUSED_LINE = 1,    /* a text line with which no text of the rule can go on, or an end too early */
-    JEMQOLU_REFUSED_NUMBER = 2,  /* in a text an extent above 4,294,967,295 or a seg above 1,048,576; a distance above
-                                    256 given to a watch; a store above 1,024; a number of customers that is not 1 to 8 */
+    JEMQOLU_REFUSED_NUMBER = 2,  /* in a text an extent above 4,294,967,295 or a seg above 1,048,576; a word given to a
+                                    watch that is neither a distance from 1 to 256 nor a cold read of a number from 1 to
+                                    256; a store above 1,024; a number of customers that is not 1 to 8 */
     JEMQOLU_REFUSED_SEGS = 3,    /* the segs of a plan do not add up to the log */
     JEMQOLU_REFUSED_PLAN = 4,    /* a plan text over 65,536 bytes, a ninth join open, a seventeenth part of one join */
     JEMQOLU_REFUSED_SUMMARY = 5, /* words that are not a well-formed summary */
@@ -51,6 +55,9 @@ enum jemqolu_refusal {
 #define JEMQOLU_MAX_STORE 1024       /* the extents of a store that is split */
 #define JEMQOLU_MAX_CUSTOMERS 8      /* of one store */
 
+/* The words of reads: a distance and a cold read's number are 1 to JEMQOLU_MAX_EXTENTS. */
+#define JEMQOLU_COLD 65536 /* a cold read is written as this plus its number */
+
 /* Lengths that always suffice, and the exact ones of a session and a watch. */
 #define JEMQOLU_SUMMARY_WORDS 770  /* 2 + 3 * 256: any summary */
 #define JEMQOLU_LEVEL_WORDS 1540   /* the work words for each join open at once where a plan is deepest */
@@ -70,7 +77,8 @@ int64_t jemqolu_summarize(const uint32_t *reads, size_t reads_len, uint32_t *out
 int64_t jemqolu_join(const uint32_t *a, size_t a_len, const uint32_t *b, size_t b_len, uint32_t *out, size_t out_len);
 
 /* The reuse distances of a part's reads as in the whole log, from the summary of all that was read before the part.
- * Lent: the prefix's summary (two words 0 for none); the part's reads; `out`, a word a read, 0 for a cold read.
+ * Lent: the prefix's summary (two words 0 for none); the part's reads; `out`, a word a read: its distance, or for a
+ * cold read JEMQOLU_COLD plus its number, which counts the prefix's extents too.
  * Answer: the words written, as many as there are reads. Refusals, in order: -5, -8, -9, -6. */
 int64_t jemqolu_distances(const uint32_t *prefix, size_t prefix_len, const uint32_t *reads, size_t reads_len,
                           uint32_t *out, size_t out_len);
@@ -130,7 +138,8 @@ int64_t jemqolu_list(const uint8_t *text, size_t text_len, uint8_t *out, size_t 
 int64_t jemqolu_session_new(uint32_t *session, size_t session_len);
 
 /* One more read. Lent: the session, which is changed there; one word for the number of sums that the read looked at,
- * 0 for a cold read. Answer: the reuse distance, 0 for a cold read. Refusals, in order: -7, -8, -9. */
+ * 0 for a cold read. Answer: the reuse distance, or for a cold read JEMQOLU_COLD plus its number.
+ * Refusals, in order: -7, -8, -9. */
 int64_t jemqolu_session_read(uint32_t *session, size_t session_len, uint32_t extent, uint32_t *sums_read);
 
 /* The summary of the reads accepted.
@@ -150,9 +159,10 @@ int64_t jemqolu_session_share(const uint32_t *session, size_t session_len, uint3
 /* A new watch on a size. Lent: 4 words. Answer: 4. Refusal: -6. */
 int64_t jemqolu_watch_new(uint32_t size, uint32_t *watch, size_t watch_len);
 
-/* One more read's distance, as jemqolu_session_read answers and jemqolu_distances writes it: 0 for a cold read.
+/* One more read's word, as jemqolu_session_read answers and jemqolu_distances writes it: a distance from 1 to 256, or
+ * for a cold read JEMQOLU_COLD plus a number from 1 to 256, which makes no difference.
  * Lent: the watch, which is changed there. Answer: 0. Refusals, in order: -7, -2, -8. */
-int64_t jemqolu_watch_read(uint32_t *watch, size_t watch_len, uint32_t distance);
+int64_t jemqolu_watch_read(uint32_t *watch, size_t watch_len, uint32_t word);
 
 /* The misses so far, reads less hits. Lent: the watch. Refusal: -7. */
 int64_t jemqolu_watch_misses(const uint32_t *watch, size_t watch_len);

@@ -42,7 +42,7 @@ pub fn join(a: &[u32], b: &[u32], room: usize) -> Answer<Vec<u32>> {
     written(answer, &out)
 }
 
-/// The distances of a part after a prefix, in a buffer of `room` words.
+/// The words of a part's reads after a prefix, in a buffer of `room` words.
 #[track_caller]
 pub fn distances(prefix: &[u32], reads: &[u32], room: usize) -> Answer<Vec<u32>> {
     let (prefix, reads, mut out) = (Lent::holding(prefix), Lent::holding(reads), Lent::room(room));
@@ -118,10 +118,10 @@ pub fn session_read(words: &mut [u32], extent: u32) -> Answer<Reading> {
     let (mut session, mut sums_read) = (Lent::holding(words), Lent::<u32>::room(1));
     let answer = ffi::session_read(session.cells_mut(), extent, &mut sums_read.cells_mut()[0]);
     match answer {
-        Ok(distance) => {
+        Ok(word) => {
             let sums_read = sums_read.written(1)[0];
             words[..session::WORDS].copy_from_slice(session.written(session::WORDS));
-            Ok(Reading { distance, sums_read })
+            Ok(Reading { word, sums_read })
         }
         Err(number) => {
             session.assert_kept();
@@ -166,11 +166,11 @@ pub fn watch_new(size: u32, room: usize) -> Answer<Vec<u32>> {
     written(answer, &watch)
 }
 
-/// One more read's distance for a watch, which is changed there.
+/// One more read's word for a watch, which is changed there.
 #[track_caller]
-pub fn watch_read(words: &mut [u32], distance: u32) -> Answer<u64> {
+pub fn watch_read(words: &mut [u32], word: u32) -> Answer<u64> {
     let mut watch = Lent::holding(words);
-    let answer = ffi::watch_read(watch.cells_mut(), distance);
+    let answer = ffi::watch_read(watch.cells_mut(), word);
     match answer {
         Ok(_) => words[..watch::WORDS].copy_from_slice(watch.written(watch::WORDS)),
         Err(_) => watch.assert_kept(),

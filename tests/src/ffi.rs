@@ -49,7 +49,7 @@ mod raw {
         pub fn jemqolu_session_misses(session: *const u32, session_len: usize, size: u32) -> i64;
         pub fn jemqolu_session_share(session: *const u32, session_len: usize, size: u32, share: *mut f64) -> i64;
         pub fn jemqolu_watch_new(size: u32, watch: *mut u32, watch_len: usize) -> i64;
-        pub fn jemqolu_watch_read(watch: *mut u32, watch_len: usize, distance: u32) -> i64;
+        pub fn jemqolu_watch_read(watch: *mut u32, watch_len: usize, word: u32) -> i64;
         pub fn jemqolu_watch_misses(watch: *const u32, watch_len: usize) -> i64;
         pub fn jemqolu_watch_share(watch: *const u32, watch_len: usize, share: *mut f64) -> i64;
     }
@@ -70,7 +70,7 @@ pub fn join(a: &[u32], b: &[u32], out: &mut [u32]) -> Answer<usize> {
     answer(unsafe { raw::jemqolu_join(a.as_ptr(), a.len(), b.as_ptr(), b.len(), out.as_mut_ptr(), out.len()) })
 }
 
-/// The reuse distances of `reads` after a prefix; the words written.
+/// The words of `reads` after a prefix, each a distance or a cold read; how many are written.
 pub fn distances(prefix: &[u32], reads: &[u32], out: &mut [u32]) -> Answer<usize> {
     answer(unsafe {
         raw::jemqolu_distances(prefix.as_ptr(), prefix.len(), reads.as_ptr(), reads.len(), out.as_mut_ptr(), out.len())
@@ -128,7 +128,7 @@ pub fn session_new(session: &mut [u32]) -> Answer<usize> {
     answer(unsafe { raw::jemqolu_session_new(session.as_mut_ptr(), session.len()) })
 }
 
-/// One more read of a session; its reuse distance, 0 for a cold read.
+/// One more read of a session; its word.
 pub fn session_read(session: &mut [u32], extent: u32, sums_read: &mut u32) -> Answer<usize> {
     answer(unsafe { raw::jemqolu_session_read(session.as_mut_ptr(), session.len(), extent, sums_read) })
 }
@@ -153,9 +153,9 @@ pub fn watch_new(size: u32, watch: &mut [u32]) -> Answer<usize> {
     answer(unsafe { raw::jemqolu_watch_new(size, watch.as_mut_ptr(), watch.len()) })
 }
 
-/// One more read's distance, 0 for a cold read; 0.
-pub fn watch_read(watch: &mut [u32], distance: u32) -> Answer<usize> {
-    answer(unsafe { raw::jemqolu_watch_read(watch.as_mut_ptr(), watch.len(), distance) })
+/// One more read's word for a watch; 0.
+pub fn watch_read(watch: &mut [u32], word: u32) -> Answer<usize> {
+    answer(unsafe { raw::jemqolu_watch_read(watch.as_mut_ptr(), watch.len(), word) })
 }
 
 /// The misses so far.

@@ -2,7 +2,8 @@
 
 /// A text line with which no text of the rule can go on, or an end too early.
 pub const LINE: i64 = 1;
-/// An extent, a seg, a watched distance or a store that is too large, or a number of customers that is not 1 to 8.
+/// An extent, a seg or a store that is too large, a watched word that is neither a distance nor a cold read, or a
+/// number of customers that is not 1 to 8.
 pub const NUMBER: i64 = 2;
 /// The segs of a plan do not add up to the log.
 pub const SEGS: i64 = 3;

@@ -12,21 +12,21 @@ struct Part {
     words: Vec<u32>,
 }
 
-/// What a new session makes of a list of read calls: the part, and the distances answered.
+/// What a new session makes of a list of read calls: the part, and the words answered.
 fn read_calls(list: &[u32]) -> (Part, Vec<u32>) {
     let mut words = calls::session_new(session::WORDS).expect("a new session");
-    let (mut reads, mut distances) = (Vec::new(), Vec::new());
+    let (mut reads, mut answers) = (Vec::new(), Vec::new());
     for extent in list {
         match calls::session_read(&mut words, *extent) {
             Ok(reading) => {
                 reads.push(*extent);
-                distances.push(reading.distance as u32);
+                answers.push(reading.word as u32);
             }
             Err(number) => assert_eq!(number, refusal::EXTENTS, "a read within the limit of reads"),
         }
     }
     let words = calls::session_summary(&words, 770).expect("a session that nobody else wrote to");
-    (Part { reads, words }, distances)
+    (Part { reads, words }, answers)
 }
 
 /// The part of these reads, by a session or by the call for whole traces.
@@ -56,7 +56,7 @@ fn cut(random: &mut Random, reads: &[u32], count: usize) -> Vec<Part> {
     cuts.windows(2).map(|ends| part(random, &reads[ends[0]..ends[1]])).collect()
 }
 
-/// The distances of each part after a grouping of all parts before it, end to end.
+/// The words of each part's reads after a grouping of all parts before it, end to end.
 fn distances(random: &mut Random, parts: &[Part]) -> Vec<u32> {
     let mut all = Vec::new();
     for (place, part) in parts.iter().enumerate() {
@@ -76,7 +76,9 @@ fn compare(tally: &mut Tally, random: &mut Random, parts: &[Part]) {
     for _ in 0..3 {
         tally.same(&grouped(random, parts), &uncut.words, &whole);
     }
-    tally.same(&distances(random, parts), &answers, &whole);
+    let in_parts = distances(random, parts);
+    tally.same(&in_parts, &answers, &whole);
+    tally.same(trace::numbers(&in_parts), (1..=uncut.words[1]).collect(), &whole);
 }
 
 #[test]
@@ -93,7 +95,7 @@ fn all_cuttings_of_short_traces() {
             }
         }
     }
-    tally.at_least(40_000);
+    tally.at_least(50_000);
 }
 
 #[test]
@@ -107,7 +109,7 @@ fn cuttings_of_random_traces() {
         let parts = cut(&mut random, &reads, count);
         compare(&mut tally, &mut random, &parts);
     }
-    tally.at_least(1600);
+    tally.at_least(1900);
 }
 
 #[test]
@@ -128,7 +130,7 @@ fn parts_with_refused_reads() {
         parts.extend(cut(&mut random, &after, 2));
         compare(&mut tally, &mut random, &parts);
     }
-    tally.at_least(190);
+    tally.at_least(216);
 }
 
 /// Compares each answer of a list of read calls with the plain session's, and the session after them with one that was
@@ -199,7 +201,7 @@ fn a_read_is_a_hit_where_its_distance_is_within_the_size() {
         let reads = made::trace(&mut random, 200, 25);
         let (_, answers) = read_calls(&reads);
         for size in (0..=trace::firsts(&reads).len() as u32 + 1).chain([256, 257, u32::MAX]) {
-            let hits: Vec<bool> = answers.iter().map(|distance| (1..=size).contains(distance)).collect();
+            let hits: Vec<bool> = answers.iter().map(|word| trace::is_hit(*word, size)).collect();
             tally.same(hits, cache::hits(&reads, size), &(&reads, size));
         }
     }

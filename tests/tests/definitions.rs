@@ -18,8 +18,8 @@ fn traces() -> Vec<Vec<u32>> {
 }
 
 #[test]
-fn a_counted_distance_is_the_place_in_the_stack() {
-    let mut tally = Tally::new("distances by counting and by the LRU stack");
+fn a_counted_word_is_the_place_in_the_stack_or_its_height() {
+    let mut tally = Tally::new("distances and numbers by counting and by the LRU stack");
     for trace in traces() {
         tally.same(Stack(Vec::new()).distances(&trace), trace::distances(&trace), &trace);
     }
@@ -27,12 +27,25 @@ fn a_counted_distance_is_the_place_in_the_stack() {
 }
 
 #[test]
+fn a_number_is_the_place_of_the_extent_by_first_read() {
+    let mut tally = Tally::new("numbers of cold reads and extents by first read");
+    for trace in traces() {
+        let words = trace::distances(&trace);
+        let cold = trace.iter().zip(&words).filter(|(_, word)| trace::is_cold(**word));
+        tally.same(cold.map(|(extent, _)| *extent).collect(), trace::firsts(&trace), &trace);
+        let all: Vec<u32> = (1..=trace::firsts(&trace).len() as u32).collect();
+        tally.same(trace::numbers(&words), all, &trace);
+    }
+    tally.at_least(2400);
+}
+
+#[test]
 fn a_distance_is_the_smallest_cache_that_hits() {
     let mut tally = Tally::new("distances and caches of all sizes");
     for trace in traces() {
-        let distances = trace::distances(&trace);
+        let words = trace::distances(&trace);
         for size in 0..=trace::firsts(&trace).len() as u32 + 1 {
-            let hits: Vec<bool> = distances.iter().map(|distance| (1..=size).contains(distance)).collect();
+            let hits: Vec<bool> = words.iter().map(|word| trace::is_hit(*word, size)).collect();
             tally.same(cache::hits(&trace, size), hits, &(&trace, size));
         }
     }
@@ -65,7 +78,7 @@ fn the_sums_on_the_way_up_are_the_marks_above() {
         for (place, slot) in marks.iter().enumerate() {
             let reading = session::way_up(&words[session::SUMS], *slot);
             let zeros = (0..9).filter(|digit| slot >> digit & 1 == 0).count() as u32;
-            let wanted = session::Reading { distance: marks.len() - place, sums_read: zeros };
+            let wanted = session::Reading { word: marks.len() - place, sums_read: zeros };
             tally.same(reading, wanted, &(&marks, slot));
         }
     }
@@ -79,8 +92,7 @@ fn a_session_answers_as_the_stack_does() {
     for _ in 0..40 {
         let trace = made::trace(&mut random, 900, 100);
         let mut words = session::new();
-        let answers: Vec<u32> =
-            trace.iter().map(|extent| session::accept(&mut words, *extent).distance as u32).collect();
+        let answers: Vec<u32> = trace.iter().map(|extent| session::accept(&mut words, *extent).word as u32).collect();
         tally.same(answers, trace::distances(&trace), &trace);
         tally.same(session::summary(&words), Ok(summary::of(&trace)), &trace);
     }

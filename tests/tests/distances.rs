@@ -70,9 +70,9 @@ fn a_distance_is_the_smallest_cache_that_hits() {
     let mut traces = made::all_traces(5, &[7, 1024, 1_048_576]);
     traces.extend((0..200).map(|_| made::trace(&mut random, 250, 30)));
     for trace in traces {
-        let distances = calls::distances(&[0, 0], &trace, trace.len()).expect("a trace within the limits");
+        let words = calls::distances(&[0, 0], &trace, trace.len()).expect("a trace within the limits");
         for size in 0..=trace::firsts(&trace).len() as u32 + 1 {
-            let hits: Vec<bool> = distances.iter().map(|distance| (1..=size).contains(distance)).collect();
+            let hits: Vec<bool> = words.iter().map(|word| trace::is_hit(*word, size)).collect();
             tally.same(hits, cache::hits(&trace, size), &(&trace, size));
         }
     }

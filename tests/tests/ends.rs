@@ -2,7 +2,7 @@
 
 use jemqolu_tests::plain::plans::{self, Plan, LEVEL_WORDS};
 use jemqolu_tests::plain::session::{self, WORDS};
-use jemqolu_tests::plain::{logs, splits, summary, trace, watch};
+use jemqolu_tests::plain::{logs, splits, summary, trace, watch, COLD};
 use jemqolu_tests::random::Random;
 use jemqolu_tests::tally::Tally;
 use jemqolu_tests::{ffi, made, Answer};
@@ -97,17 +97,17 @@ fn sessions_and_watches() {
         }
     }
     let whole = [3, 9, 4, 2, 1];
-    for len in 0..=whole.len() {
+    for (len, word) in (0..=whole.len()).flat_map(|len| [2, COLD + 5, COLD].map(|word| (len, word))) {
         let (mut words, mut wanted, mut share) = (whole, whole, 0.0);
-        let answer = ffi::watch_read(&mut words[..len], 2).map(|answer| answer as u64);
-        tally.same(answer, watch::read(&mut wanted[..len], 2), &len);
-        tally.same(words, wanted, &len);
+        let answer = ffi::watch_read(&mut words[..len], word).map(|answer| answer as u64);
+        tally.same(answer, watch::read(&mut wanted[..len], word), &(len, word));
+        tally.same(words, wanted, &(len, word));
         let misses = ffi::watch_misses(&whole[..len]).map(|misses| misses as u64);
         tally.same(misses, watch::misses(&whole[..len]), &len);
         let answer = ffi::watch_share(&whole[..len], &mut share).map(|some| (some > 0).then_some(share));
         tally.same(answer, watch::share(&whole[..len]), &len);
     }
-    tally.at_least(3500);
+    tally.at_least(4200);
 }
 
 #[test]

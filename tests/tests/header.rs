@@ -1,7 +1,7 @@
 //! The header: its calls are those declared in `ffi`, and its limits and refusals those of the definitions.
 
 use jemqolu_tests::header::{number, HEADER};
-use jemqolu_tests::plain::{plans, session, splits, watch, MAX_EXTENTS, MAX_READS};
+use jemqolu_tests::plain::{plans, session, splits, watch, COLD, MAX_EXTENTS, MAX_READS};
 use jemqolu_tests::refusal;
 
 /// The declarations as they stand in the header, line ends and indents aside.
@@ -23,7 +23,7 @@ const CALLS: [&str; 17] = [
     "jemqolu_session_misses(const uint32_t *session, size_t session_len, uint32_t size)",
     "jemqolu_session_share(const uint32_t *session, size_t session_len, uint32_t size, double *share)",
     "jemqolu_watch_new(uint32_t size, uint32_t *watch, size_t watch_len)",
-    "jemqolu_watch_read(uint32_t *watch, size_t watch_len, uint32_t distance)",
+    "jemqolu_watch_read(uint32_t *watch, size_t watch_len, uint32_t word)",
     "jemqolu_watch_misses(const uint32_t *watch, size_t watch_len)",
     "jemqolu_watch_share(const uint32_t *watch, size_t watch_len, double *share)",
 ];
@@ -45,6 +45,7 @@ fn the_header_has_the_limits_of_the_definitions() {
     assert_eq!(number("MAX_SEG"), MAX_READS);
     assert_eq!(number("MAX_STORE"), u64::from(splits::MAX_STORE));
     assert_eq!(number("MAX_CUSTOMERS"), splits::MAX_CUSTOMERS as u64);
+    assert_eq!(number("COLD"), u64::from(COLD));
     assert_eq!(number("SUMMARY_WORDS"), 2 + 3 * MAX_EXTENTS as u64);
     assert_eq!(number("LEVEL_WORDS"), plans::LEVEL_WORDS as u64);
     assert_eq!(number("WORK_WORDS"), (plans::LEVEL_WORDS * plans::MAX_DEPTH) as u64);

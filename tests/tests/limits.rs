@@ -164,8 +164,8 @@ fn a_session_of_all_reads() {
     tally.same(ffi::session_new(session.cells_mut()), Ok(WORDS), &MOST);
     let mut wanted = session::new();
     for extent in &trace {
-        let distance = ffi::session_read(session.cells_mut(), *extent, &mut sums_read.cells_mut()[0]);
-        let got = distance.map(|distance| Reading { distance, sums_read: sums_read.written(1)[0] });
+        let word = ffi::session_read(session.cells_mut(), *extent, &mut sums_read.cells_mut()[0]);
+        let got = word.map(|word| Reading { word, sums_read: sums_read.written(1)[0] });
         tally.same(got, Ok(session::accept(&mut wanted, *extent)), &extent);
         assert!(session.written(WORDS) == wanted, "the session's words");
     }

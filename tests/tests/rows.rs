@@ -1,10 +1,13 @@
-//! The requirements' own examples: every row of 'Sessions to try', the sample texts, and the four quiet wrong joins.
+//! The requirements' own examples: every row of 'Sessions to try', the numbers of cold reads, the sample texts, and the
+//! four quiet wrong joins.
 
 use jemqolu_tests::plain::session::{Reading, READS, WORDS};
+use jemqolu_tests::plain::COLD;
 use jemqolu_tests::random::Random;
 use jemqolu_tests::{calls, made, refusal, Answer};
 
 const SEVEN: [u32; 7] = [7, 3, 7, 9, 3, 3, 9];
+const SEVEN_WORDS: [u32; 7] = [65_537, 65_538, 2, 65_539, 3, 1, 2];
 const SUMMARY: [u32; 11] = [7, 3, 7, 3, 9, 9, 3, 7, 1, 2, 1];
 const FRONT: [u32; 11] = [4, 3, 7, 3, 9, 9, 7, 3, 0, 1, 0];
 const BACK: [u32; 8] = [3, 2, 3, 9, 9, 3, 1, 0];
@@ -17,17 +20,41 @@ fn read_all(trace: &[u32]) -> (Vec<u32>, Vec<Answer<Reading>>) {
 }
 
 /// An accepted read.
-fn reading(distance: usize, sums_read: u32) -> Answer<Reading> {
-    Ok(Reading { distance, sums_read })
+fn reading(word: u32, sums_read: u32) -> Answer<Reading> {
+    Ok(Reading { word: word as usize, sums_read })
 }
 
 #[test]
 fn the_seven_reads() {
     let (session, answers) = read_all(&SEVEN);
-    let wanted = [(0, 0), (0, 0), (2, 9), (0, 0), (3, 8), (1, 8), (2, 7)];
-    assert_eq!(answers, wanted.map(|(distance, sums_read)| reading(distance, sums_read)));
+    let wanted = [(COLD + 1, 0), (COLD + 2, 0), (2, 9), (COLD + 3, 0), (3, 8), (1, 8), (2, 7)];
+    assert_eq!(answers, wanted.map(|(word, sums_read)| reading(word, sums_read)));
     assert_eq!(calls::session_summary(&session, 11), Ok(SUMMARY.to_vec()));
-    assert_eq!(calls::distances(&[0, 0], &SEVEN, 7), Ok(vec![0, 0, 2, 0, 3, 1, 2]));
+    assert_eq!(calls::distances(&[0, 0], &SEVEN, 7), Ok(SEVEN_WORDS.to_vec()));
+}
+
+#[test]
+fn a_number_counts_the_extents_of_the_prefix_too() {
+    // after 7 3 7 9 the extent 8 is the fourth
+    assert_eq!(calls::distances(&FRONT, &[3, 3, 9, 8], 4), Ok(vec![3, 1, 2, 65_540]));
+    let (_, answers) = read_all(&[7, 3, 7, 9, 3, 3, 9, 8]);
+    assert_eq!(answers[7], reading(65_540, 0));
+    // no log has these words: 4 6 would have R 6 4
+    assert_eq!(calls::distances(&[2, 2, 4, 6, 4, 6, 0, 0], &[6, 9], 2), Ok(vec![2, 65_539]));
+}
+
+#[test]
+fn the_watch_disregards_the_number() {
+    for words in [SEVEN_WORDS, [65_539, 65_792, 2, 65_537, 3, 1, 2]] {
+        let mut watch = calls::watch_new(2, 4).expect("a new watch");
+        for word in words {
+            assert_eq!(calls::watch_read(&mut watch, word), Ok(0));
+        }
+        assert_eq!(watch, [2, 7, 3, 3]);
+        for word in [0, 257, 65_536, 65_793] {
+            assert_eq!(calls::watch_read(&mut watch, word), Err(refusal::NUMBER));
+        }
+    }
 }
 
 #[test]
@@ -62,7 +89,8 @@ fn one_extent_at_read_512_and_513() {
 fn the_256_extents_and_another() {
     let extents: Vec<u32> = (0..256).collect();
     let (mut session, answers) = read_all(&extents);
-    assert_eq!(answers, vec![reading(0, 0); 256]);
+    assert_eq!(answers, (1..=256).map(|number| reading(COLD + number, 0)).collect::<Vec<Answer<Reading>>>());
+    assert_eq!(answers[255], reading(65_792, 0));
     assert_eq!(calls::session_read(&mut session, 256), Err(refusal::EXTENTS));
     assert_eq!(calls::session_read(&mut session, 0), reading(256, 9));
     assert_eq!(calls::session_read(&mut session, 256), Err(refusal::EXTENTS));

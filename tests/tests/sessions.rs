@@ -1,7 +1,7 @@
 //! Sessions read by read, word for word.
 
 use jemqolu_tests::plain::session::{self, Reading, FIRSTS, NEXT, READS, SLOTS, WORDS};
-use jemqolu_tests::plain::{summary, MAX_EXTENTS, MAX_READS};
+use jemqolu_tests::plain::{summary, COLD, MAX_EXTENTS, MAX_READS};
 use jemqolu_tests::random::Random;
 use jemqolu_tests::room::{rooms, within};
 use jemqolu_tests::tally::Tally;
@@ -98,7 +98,7 @@ fn every_slot_of_the_tree() {
         words[NEXT] = slot as u32 + 1;
         let next = if slot + 1 == SLOTS { 0 } else { slot };
         let zeros = (0..9).filter(|digit| next >> digit & 1 == 0).count() as u32;
-        tally.same(calls::session_read(&mut words.clone(), 5), Ok(Reading { distance: 1, sums_read: zeros }), &slot);
+        tally.same(calls::session_read(&mut words.clone(), 5), Ok(Reading { word: 1, sums_read: zeros }), &slot);
         step(&mut tally, &mut words, 5);
     }
     tally.at_least(1500);
@@ -202,7 +202,7 @@ fn refusals_in_order() {
         (&known[..], most, false, Err(refusal::READS)),
         (&known[..1], most, false, Err(refusal::READS)),
         (&known[..], most - 1, false, Err(refusal::EXTENTS)),
-        (&known[..255], most - 1, false, Ok(Reading { distance: 0, sums_read: 0 })),
+        (&known[..255], most - 1, false, Ok(Reading { word: COLD as usize + MAX_EXTENTS, sums_read: 0 })),
     ] {
         let mut words = session(known, reads, damaged);
         let wanted_summary = if damaged { Err(refusal::STATE) } else { Err(refusal::ROOM) };

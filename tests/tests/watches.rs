@@ -1,17 +1,30 @@
 //! Watches on one cache size.
 
-use jemqolu_tests::plain::{cache, hit_share, trace, watch, MAX_READS};
+use jemqolu_tests::plain::session::WORDS;
+use jemqolu_tests::plain::{cache, hit_share, trace, watch, COLD, MAX_EXTENTS, MAX_READS};
 use jemqolu_tests::random::Random;
 use jemqolu_tests::tally::Tally;
 use jemqolu_tests::{calls, made, refusal};
 
 const MOST: u32 = MAX_READS as u32;
+/// The largest distance, and the largest number of a cold read.
+const LAST: u32 = MAX_EXTENTS as u32;
+/// Words that are a distance or a cold read, at the edges of both.
+const TAKEN: [u32; 8] = [1, 2, LAST - 1, LAST, COLD + 1, COLD + 2, COLD + LAST - 1, COLD + LAST];
+/// Words that are neither, which are refused.
+const REFUSED: [u32; 9] =
+    [0, LAST + 1, COLD - 1, COLD, COLD + LAST + 1, 2 * COLD + 1, (1 << 31) + 1, (1 << 31) + COLD + 1, u32::MAX];
+
+/// Words at the edges of what a watch is given.
+fn edge_words() -> Vec<u32> {
+    [&TAKEN[..], &REFUSED].concat()
+}
 
 /// Compares the misses, the share and one more read of a watch.
-fn compare(tally: &mut Tally, words: &[u32], distance: u32) {
+fn compare(tally: &mut Tally, words: &[u32], word: u32) {
     let (mut got, mut wanted) = (words.to_vec(), words.to_vec());
-    tally.same(calls::watch_read(&mut got, distance), watch::read(&mut wanted, distance), &(words, distance));
-    tally.same(got, wanted, &(words, distance));
+    tally.same(calls::watch_read(&mut got, word), watch::read(&mut wanted, word), &(words, word));
+    tally.same(got, wanted, &(words, word));
     tally.same(calls::watch_misses(words), watch::misses(words), &words);
     let bits = |share: Option<f64>| share.map(f64::to_bits);
     tally.same(calls::watch_share(words).map(bits), watch::share(words).map(bits), &words);
@@ -36,14 +49,14 @@ fn all_small_watches() {
         for reads in 0..5 {
             for cold in 0..6 {
                 for hits in 0..6 {
-                    for distance in [0, 1, 2, 3, 4, 256, 257, u32::MAX] {
-                        compare(&mut tally, &[size, reads, cold, hits], distance);
+                    for word in edge_words().into_iter().chain([3, 4]) {
+                        compare(&mut tally, &[size, reads, cold, hits], word);
                     }
                 }
             }
         }
     }
-    tally.at_least(20_000);
+    tally.at_least(54_000);
 }
 
 #[test]
@@ -54,14 +67,40 @@ fn words_at_the_edges() {
         for reads in edges {
             for cold in edges {
                 for hits in edges {
-                    for distance in [0, 1, 256, 257] {
-                        compare(&mut tally, &[size, reads, cold, hits], distance);
+                    for word in edge_words() {
+                        compare(&mut tally, &[size, reads, cold, hits], word);
                     }
                 }
             }
         }
     }
-    tally.at_least(80_000);
+    tally.at_least(360_000);
+}
+
+#[test]
+fn every_word_to_past_the_cold_reads() {
+    let mut tally = Tally::new("every word to past the cold reads");
+    for words in [[4, 9, 3, 2], [u32::MAX, 9, 3, 2], [4, MOST, 3, 2], [4, 9, 8, 2]] {
+        for word in 0..COLD + 2 * LAST {
+            compare(&mut tally, &words, word);
+        }
+    }
+    tally.at_least(1_050_000);
+}
+
+#[test]
+fn the_number_of_a_cold_read_is_disregarded() {
+    let mut tally = Tally::new("watches and the numbers of cold reads");
+    for size in [0, 1, 2, LAST - 1, LAST, LAST + 1, COLD, COLD + 1, COLD + LAST, u32::MAX] {
+        for [reads, cold, hits] in [[0, 0, 0], [1, 0, 0], [7, 3, 3], [300, 256, 44], [MOST - 1, 0, MOST - 1]] {
+            for number in 1..=LAST {
+                let mut words = vec![size, reads, cold, hits];
+                tally.same(calls::watch_read(&mut words, COLD + number), Ok(0), &(size, reads, number));
+                tally.same(words, vec![size, reads + 1, cold + 1, hits], &(size, reads, number));
+            }
+        }
+    }
+    tally.at_least(25_600);
 }
 
 #[test]
@@ -70,24 +109,35 @@ fn lengths_around_a_watch() {
     for words in [[2, 7, 3, 3, 9, 9, 9], [2, 0, 0, 0, 0, 0, 0], [2, 7, 5, 3, 1, 1, 1], [1, MOST, 1, 0, u32::MAX, 0, 0]]
     {
         for len in 0..=7 {
-            for distance in [0, 1, 2, 3, 257] {
-                compare(&mut tally, &words[..len], distance);
+            for word in edge_words() {
+                compare(&mut tally, &words[..len], word);
             }
         }
     }
-    tally.at_least(640);
+    tally.at_least(2100);
 }
 
 #[test]
 fn refusals_in_order() {
-    let read = |words: [u32; 4], distance| calls::watch_read(&mut words.to_vec(), distance);
-    assert_eq!(read([3, MOST, MOST, 1], 257), Err(refusal::STATE));
-    assert_eq!(read([3, MOST + 1, 1, 1], 257), Err(refusal::STATE));
-    assert_eq!(read([3, MOST, 1, 1], 257), Err(refusal::NUMBER));
-    assert_eq!(read([3, MOST, 1, 1], 256), Err(refusal::READS));
-    assert_eq!(read([3, MOST, 1, 1], 0), Err(refusal::READS));
-    assert_eq!(read([3, MOST - 1, 1, 1], 256), Ok(0));
-    assert_eq!(read([3, 5, u32::MAX, 2], 1), Err(refusal::STATE));
+    let mut tally = Tally::new("watches that are refused for up to three reasons");
+    let unsound = [[3, 5, 4, 2], [3, 5, u32::MAX, 2], [3, 0, 1, 0]];
+    let unsound_and_full = [[3, MOST, MOST, 1], [3, MOST + 1, 1, 1], [3, MOST, u32::MAX, 1]];
+    let full = [[3, MOST, 1, 1], [0, MOST, MOST, 0], [LAST, MOST, 0, MOST]];
+    let open = [[3, MOST - 1, 1, 1], [0, 0, 0, 0], [LAST, 9, 4, 5]];
+    for (watches, with_refused, with_taken) in [
+        (unsound, Err(refusal::STATE), Err(refusal::STATE)),
+        (unsound_and_full, Err(refusal::STATE), Err(refusal::STATE)),
+        (full, Err(refusal::NUMBER), Err(refusal::READS)),
+        (open, Err(refusal::NUMBER), Ok(0)),
+    ] {
+        let given = REFUSED.map(|word| (word, with_refused)).into_iter().chain(TAKEN.map(|word| (word, with_taken)));
+        for (words, (word, wanted)) in watches.iter().flat_map(|words| given.clone().map(move |given| (words, given))) {
+            let mut left = words.to_vec();
+            tally.same(calls::watch_read(&mut left, word), wanted, &(words, word));
+            tally.same(left == words, wanted.is_err(), &(words, word));
+        }
+    }
+    tally.at_least(408);
 }
 
 #[test]
@@ -99,10 +149,25 @@ fn random_words() {
         let reads = random.below(bound);
         let cold = random.below(reads + 2);
         let hits = random.below((reads + 2).saturating_sub(cold).max(1));
-        let (size, distance) = (random.below(300) as u32, random.below(300) as u32);
-        compare(&mut tally, &[size, reads as u32, cold as u32, hits as u32], distance);
+        let (size, number, any) = (random.below(300) as u32, random.below(300) as u32, random.word());
+        let bit = 1 << random.below(32);
+        let word = random.of(&[number, COLD + number, number ^ bit, (COLD + number) ^ bit, bit, any]);
+        compare(&mut tally, &[size, reads as u32, cold as u32, hits as u32], word);
     }
     tally.at_least(160_000);
+}
+
+/// The words of a trace's reads as the library gives them: from a session, or in two parts, the second after the first.
+fn words_of(random: &mut Random, reads: &[u32]) -> Vec<u32> {
+    if random.one_in(4) {
+        let mut session = calls::session_new(WORDS).expect("a new session");
+        let mut read = |extent: &u32| calls::session_read(&mut session, *extent).expect("a read within the limits");
+        return reads.iter().map(|extent| read(extent).word as u32).collect();
+    }
+    let (front, back) = reads.split_at(random.below(reads.len() + 1));
+    let prefix = calls::summarize(front, 770).expect("a trace within the limits");
+    let words = |prefix: &[u32], part: &[u32]| calls::distances(prefix, part, part.len()).expect("a part of a trace");
+    [words(&[0, 0], front), words(&prefix, back)].concat()
 }
 
 #[test]
@@ -112,16 +177,18 @@ fn watches_of_traces() {
     for round in 0..300 {
         let (most_reads, most_extents) = if round % 2 == 0 { (200, 20) } else { (1200, 256) };
         let reads = made::trace(&mut random, most_reads, most_extents);
-        let distances = trace::distances(&reads);
-        let size = random.of(&[0, 1, 2, 3, 5, 8, 13, 21, 34, 55, 89, 144, 200, 255, 256, u32::MAX]);
+        let (given, plain) = (words_of(&mut random, &reads), trace::distances(&reads));
+        let size = random.of(&[0, 1, 2, 3, 5, 8, 13, 21, 34, 55, 89, 144, 200, 255, 256, COLD + 3, u32::MAX]);
         let mut words = calls::watch_new(size, 4).expect("a new watch");
-        for distance in &distances {
-            let mut wanted = words.clone();
-            tally.same(calls::watch_read(&mut words, *distance), watch::read(&mut wanted, *distance), &distances);
-            tally.same(&words, &wanted, &distances);
+        let mut wanted = watch::new(size);
+        for (word, plain) in given.iter().zip(&plain) {
+            tally.same(calls::watch_read(&mut words, *word), watch::read(&mut wanted, *plain), &given);
+            tally.same(&words, &wanted, &given);
         }
         let misses = cache::misses(&reads, size);
         let share = hit_share(reads.len() as u64 - misses, reads.len() as u64);
+        let counts = [reads.len(), trace::different(&reads), reads.len() - misses as usize];
+        tally.same(&words[1..], &counts.map(|count| count as u32), &(&reads, size));
         tally.same(calls::watch_misses(&words), Ok(misses), &(&reads, size));
         tally.same(calls::watch_share(&words), Ok(share), &(&reads, size));
     }

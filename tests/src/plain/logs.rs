@@ -77,12 +77,12 @@ pub fn read(text: &[u8]) -> Answer<Vec<u32>> {
 
 /// The listing of a log.
 pub fn listing(trace: &[u32]) -> Vec<u8> {
-    let distances = Stack(Vec::new()).distances(trace);
-    let cold = distances.iter().filter(|distance| **distance == 0).count();
+    let words = Stack(Vec::new()).distances(trace);
+    let cold = words.iter().filter(|word| trace::is_cold(**word)).count();
     let mut rows = vec![format!("(reads {})", trace.len()), format!("(cold {cold})")];
-    for size in 1..=trace::firsts(trace).len() {
-        let above = distances.iter().filter(|distance| **distance as usize > size).count();
-        rows.push(format!("(at {size} {})", cold + above));
+    for size in 1..=trace::firsts(trace).len() as u32 {
+        let misses = words.iter().filter(|word| !trace::is_hit(**word, size)).count();
+        rows.push(format!("(at {size} {misses})"));
     }
     format!("(sizing\n {})\n", rows.join("\n ")).into_bytes()
 }

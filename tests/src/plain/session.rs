@@ -1,7 +1,7 @@
 //! Sessions as words, in slots and sums.
 
 use super::summary;
-use super::{hit_share, MAX_EXTENTS, MAX_READS};
+use super::{hit_share, COLD, MAX_EXTENTS, MAX_READS};
 use crate::{refusal, Answer};
 use std::ops::Range;
 
@@ -23,10 +23,11 @@ pub const SUMS: Range<usize> = 1025..2048;
 /// Where the next slot stands.
 pub const NEXT: usize = 2048;
 
-/// What a read answers: its reuse distance, 0 for a cold read, and the number of sums that it looked at.
+/// What a read answers: its word, which is its distance or for a cold read COLD plus its number, and the number of sums
+/// that it looked at.
 #[derive(Clone, Copy, PartialEq, Eq, Debug)]
 pub struct Reading {
-    pub distance: usize,
+    pub word: usize,
     pub sums_read: u32,
 }
 
@@ -143,7 +144,7 @@ pub fn way_up(sums: &[u32], slot: usize) -> Reading {
         }
         place = parent(place);
     }
-    Reading { distance: 1 + total, sums_read }
+    Reading { word: 1 + total, sums_read }
 }
 
 /// A read that a sound session accepts.
@@ -157,13 +158,13 @@ pub fn accept(words: &mut [u32], extent: u32) -> Reading {
         Some(slot) => {
             let reading = way_up(&words[SUMS], slot);
             put(words, slot, 0, 0);
-            words[COUNTS][reading.distance - 1] += 1;
+            words[COUNTS][reading.word - 1] += 1;
             reading
         }
         None => {
             let v = marks(words).len();
             words[FIRSTS][v] = extent;
-            Reading { distance: 0, sums_read: 0 }
+            Reading { word: COLD as usize + v + 1, sums_read: 0 }
         }
     };
     put(words, words[NEXT] as usize, extent, 1);

@@ -26,11 +26,11 @@ fn words(reads: u64, firsts: &[u32], recents: &[u32], counts: &[u64]) -> Vec<u32
     words
 }
 
-/// The summary of a trace whose reads have these distances.
+/// The summary of a trace whose reads have these words.
 pub fn with_distances(trace: &[u32], distances: &[u32]) -> Vec<u32> {
     let firsts = trace::firsts(trace);
     let mut counts = vec![0; firsts.len()];
-    for distance in distances.iter().filter(|distance| **distance > 0) {
+    for distance in distances.iter().filter(|word| !trace::is_cold(**word)) {
         counts[*distance as usize - 1] += 1;
     }
     words(trace.len() as u64, &firsts, &trace::recents(trace), &counts)
@@ -106,7 +106,7 @@ pub fn join(a: &[u32], b: &[u32]) -> Answer<Vec<u32>> {
     Ok(join_of(&a, &b))
 }
 
-/// The call for the distances of a part after a prefix, whose R is the LRU stack that the part finds.
+/// The call for the words of a part's reads after a prefix, whose R is the LRU stack that the part finds.
 pub fn distances_after(prefix: &[u32], reads: &[u32]) -> Answer<Vec<u32>> {
     let prefix = well_formed(prefix).ok_or(refusal::SUMMARY)?;
     if prefix.reads + reads.len() as u64 > MAX_READS {

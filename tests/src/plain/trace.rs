@@ -1,5 +1,7 @@
-//! Traces: their extents, and the reuse distances of their reads. A distance of 0 is a cold read.
+//! Traces: their extents, and the words of their reads. A read's word is its reuse distance, or for a cold read COLD
+//! plus its number.
 
+use super::COLD;
 use std::collections::HashSet;
 
 /// The different extents of a trace by first read.
@@ -22,30 +24,50 @@ pub fn different(extents: &[u32]) -> usize {
     sorted.len()
 }
 
-/// The distance of each read: the different extents from its previous read up to the read before it.
+/// Whether a word is that of a cold read.
+pub fn is_cold(word: u32) -> bool {
+    word > COLD
+}
+
+/// The numbers of the cold reads among these words, in order.
+pub fn numbers(words: &[u32]) -> Vec<u32> {
+    words.iter().filter(|word| is_cold(**word)).map(|word| word - COLD).collect()
+}
+
+/// Whether a read is a hit in the cache of a size, by its word.
+pub fn is_hit(word: u32, size: u32) -> bool {
+    !is_cold(word) && word <= size
+}
+
+/// The word of each read. Its distance is the different extents from its previous read up to the read before it. Where
+/// there is no previous one, its number is 1 plus the different extents of all reads before it.
 pub fn distances(trace: &[u32]) -> Vec<u32> {
-    let distance = |read: usize| {
-        let previous = trace[..read].iter().rposition(|extent| *extent == trace[read]);
-        previous.map_or(0, |previous| different(&trace[previous..read]) as u32)
+    let word = |read: usize| {
+        let before = &trace[..read];
+        match before.iter().rposition(|extent| *extent == trace[read]) {
+            Some(previous) => different(&before[previous..]) as u32,
+            None => COLD + 1 + different(before) as u32,
+        }
     };
-    (0..trace.len()).map(distance).collect()
+    (0..trace.len()).map(word).collect()
 }
 
 /// The LRU stack: the extents read so far, the latest on top, which is the front.
 pub struct Stack(pub Vec<u32>);
 
 impl Stack {
-    /// One more read; its place in the stack, counted from 1, or 0 where it is not there.
+    /// One more read; its place in the stack, counted from 1, or where it is not there COLD plus the height of the
+    /// stack with it on top.
     pub fn read(&mut self, extent: u32) -> u32 {
         let place = self.0.iter().position(|other| *other == extent);
         if let Some(place) = place {
             self.0.remove(place);
         }
         self.0.insert(0, extent);
-        place.map_or(0, |place| place as u32 + 1)
+        place.map_or(COLD + self.0.len() as u32, |place| place as u32 + 1)
     }
 
-    /// The distances of more reads.
+    /// The words of more reads.
     pub fn distances(&mut self, reads: &[u32]) -> Vec<u32> {
         reads.iter().map(|extent| self.read(*extent)).collect()
     }

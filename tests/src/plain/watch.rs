@@ -1,10 +1,12 @@
 //! Watches as words: the size, the reads, the cold reads, the hits.
 
-use super::{hit_share, MAX_EXTENTS, MAX_READS};
+use super::{hit_share, COLD, MAX_EXTENTS, MAX_READS};
 use crate::{refusal, Answer};
 
 /// The words of a watch.
 pub const WORDS: usize = 4;
+/// The largest distance, and the largest number of a cold read.
+const MOST: u32 = MAX_EXTENTS as u32;
 
 /// Reads, cold reads and hits of a sound watch.
 fn sound(words: &[u32]) -> Answer<[u64; 3]> {
@@ -23,19 +25,21 @@ pub fn new(size: u32) -> Vec<u32> {
     vec![size, 0, 0, 0]
 }
 
-/// The call for one more distance, 0 for a cold read; a refusal leaves the watch as it was.
-pub fn read(words: &mut [u32], distance: u32) -> Answer<u64> {
+/// The call for one more read's word: a distance, or COLD plus any number that a cold read can have. A refusal leaves
+/// the watch as it was.
+pub fn read(words: &mut [u32], word: u32) -> Answer<u64> {
     let [reads, ..] = sound(words)?;
-    if distance as usize > MAX_EXTENTS {
+    let (warm, cold) = ((1..=MOST).contains(&word), (COLD + 1..=COLD + MOST).contains(&word));
+    if !warm && !cold {
         return Err(refusal::NUMBER);
     }
     if reads + 1 > MAX_READS {
         return Err(refusal::READS);
     }
     words[1] += 1;
-    if distance == 0 {
+    if cold {
         words[2] += 1;
-    } else if distance <= words[0] {
+    } else if word <= words[0] {
         words[3] += 1;
     }
     Ok(0)
