@@ -36,8 +36,8 @@ static void print_distances(const char *name, const uint32_t *prefix, size_t pre
     printf("%s:", name);
     for (size_t i = 0; i < written; i++) {
         const char *comma = i > 0 ? "," : "";
-        if (words[i] > JEMQOLU_COLD) {
-            printf("%s cold %" PRIu32, comma, words[i] - JEMQOLU_COLD);
+        if (words[i] > JEMQOLU_COLD_BASE) {
+            printf("%s cold %" PRIu32, comma, words[i] - JEMQOLU_COLD_BASE);
         } else {
             printf("%s %" PRIu32, comma, words[i]);
         }
@@ -83,8 +83,8 @@ static void read_one_by_one(const uint32_t *log, size_t count) {
         uint32_t word = (uint32_t)accepted(answer, "read");
         accepted(jemqolu_watch_read(watch, JEMQOLU_WATCH_WORDS, word), "watch");
         printf("read %" PRIu32 ": ", log[i]);
-        if (word > JEMQOLU_COLD) {
-            printf("cold, extent number %" PRIu32 "\n", word - JEMQOLU_COLD);
+        if (word > JEMQOLU_COLD_BASE) {
+            printf("cold, extent number %" PRIu32 "\n", word - JEMQOLU_COLD_BASE);
         } else {
             printf("distance %" PRIu32 "\n", word);
         }

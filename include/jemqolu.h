@@ -4,8 +4,8 @@
  * the reads L, the number v of different extents, then v words F (the extents by first read), v words R (by last read,
  * the latest first) and v words H (the word for d counts the reads of reuse distance d): 2 + 3 v words in all.
  *
- * A read's word is its reuse distance, 1 to 256, or for a cold read, the first of its extent, JEMQOLU_COLD plus its
- * number: how many different extents the log has had, its own included. So a log's first read has the number 1.
+ * A read's word is its reuse distance, 1 to 256, or for a cold read, the first of its extent, JEMQOLU_COLD_BASE plus
+ * its number: how many different extents the log has had, its own included. So a log's first read has the number 1.
  *
  * Every call takes any input. A slice is a pointer and then how many elements it has; a length of 0 may come with any
  * pointer that is not NULL. No pointer may be NULL, each is aligned as its type asks, and what a call writes to must
@@ -56,7 +56,7 @@ enum jemqolu_refusal {
 #define JEMQOLU_MAX_CUSTOMERS 8      /* of one store */
 
 /* The words of reads: a distance and a cold read's number are 1 to JEMQOLU_MAX_EXTENTS. */
-#define JEMQOLU_COLD 65536 /* a cold read is written as this plus its number */
+#define JEMQOLU_COLD_BASE 65536 /* a cold read is written as this plus its number */
 
 /* Lengths that always suffice, and the exact ones of a session and a watch. */
 #define JEMQOLU_SUMMARY_WORDS 770  /* 2 + 3 * 256: any summary */
@@ -78,7 +78,7 @@ int64_t jemqolu_join(const uint32_t *a, size_t a_len, const uint32_t *b, size_t 
 
 /* The reuse distances of a part's reads as in the whole log, from the summary of all that was read before the part.
  * Lent: the prefix's summary (two words 0 for none); the part's reads; `out`, a word a read: its distance, or for a
- * cold read JEMQOLU_COLD plus its number, which counts the prefix's extents too.
+ * cold read JEMQOLU_COLD_BASE plus its number, which counts the prefix's extents too.
  * Answer: the words written, as many as there are reads. Refusals, in order: -5, -8, -9, -6. */
 int64_t jemqolu_distances(const uint32_t *prefix, size_t prefix_len, const uint32_t *reads, size_t reads_len,
                           uint32_t *out, size_t out_len);
@@ -138,7 +138,7 @@ int64_t jemqolu_list(const uint8_t *text, size_t text_len, uint8_t *out, size_t 
 int64_t jemqolu_session_new(uint32_t *session, size_t session_len);
 
 /* One more read. Lent: the session, which is changed there; one word for the number of sums that the read looked at,
- * 0 for a cold read. Answer: the reuse distance, or for a cold read JEMQOLU_COLD plus its number.
+ * 0 for a cold read. Answer: the reuse distance, or for a cold read JEMQOLU_COLD_BASE plus its number.
  * Refusals, in order: -7, -8, -9. */
 int64_t jemqolu_session_read(uint32_t *session, size_t session_len, uint32_t extent, uint32_t *sums_read);
 
@@ -160,7 +160,7 @@ int64_t jemqolu_session_share(const uint32_t *session, size_t session_len, uint3
 int64_t jemqolu_watch_new(uint32_t size, uint32_t *watch, size_t watch_len);
 
 /* One more read's word, as jemqolu_session_read answers and jemqolu_distances writes it: a distance from 1 to 256, or
- * for a cold read JEMQOLU_COLD plus a number from 1 to 256, which makes no difference.
+ * for a cold read JEMQOLU_COLD_BASE plus a number from 1 to 256, which makes no difference.
  * Lent: the watch, which is changed there. Answer: 0. Refusals, in order: -7, -2, -8. */
 int64_t jemqolu_watch_read(uint32_t *watch, size_t watch_len, uint32_t word);
 

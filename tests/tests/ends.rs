@@ -2,7 +2,7 @@
 
 use jemqolu_tests::plain::plans::{self, Plan, LEVEL_WORDS};
 use jemqolu_tests::plain::session::{self, WORDS};
-use jemqolu_tests::plain::{logs, splits, summary, trace, watch, COLD};
+use jemqolu_tests::plain::{logs, splits, summary, trace, watch, COLD_BASE};
 use jemqolu_tests::random::Random;
 use jemqolu_tests::tally::Tally;
 use jemqolu_tests::{ffi, made, Answer};
@@ -97,7 +97,7 @@ fn sessions_and_watches() {
         }
     }
     let whole = [3, 9, 4, 2, 1];
-    for (len, word) in (0..=whole.len()).flat_map(|len| [2, COLD + 5, COLD].map(|word| (len, word))) {
+    for (len, word) in (0..=whole.len()).flat_map(|len| [2, COLD_BASE + 5, COLD_BASE].map(|word| (len, word))) {
         let (mut words, mut wanted, mut share) = (whole, whole, 0.0);
         let answer = ffi::watch_read(&mut words[..len], word).map(|answer| answer as u64);
         tally.same(answer, watch::read(&mut wanted[..len], word), &(len, word));

@@ -1,7 +1,7 @@
 //! The header: its calls are those declared in `ffi`, and its limits and refusals those of the definitions.
 
 use jemqolu_tests::header::{number, HEADER};
-use jemqolu_tests::plain::{plans, session, splits, watch, COLD, MAX_EXTENTS, MAX_READS};
+use jemqolu_tests::plain::{plans, session, splits, watch, COLD_BASE, MAX_EXTENTS, MAX_READS};
 use jemqolu_tests::refusal;
 
 /// The declarations as they stand in the header, line ends and indents aside.
@@ -45,7 +45,7 @@ fn the_header_has_the_limits_of_the_definitions() {
     assert_eq!(number("MAX_SEG"), MAX_READS);
     assert_eq!(number("MAX_STORE"), u64::from(splits::MAX_STORE));
     assert_eq!(number("MAX_CUSTOMERS"), splits::MAX_CUSTOMERS as u64);
-    assert_eq!(number("COLD"), u64::from(COLD));
+    assert_eq!(number("COLD_BASE"), u64::from(COLD_BASE));
     assert_eq!(number("SUMMARY_WORDS"), 2 + 3 * MAX_EXTENTS as u64);
     assert_eq!(number("LEVEL_WORDS"), plans::LEVEL_WORDS as u64);
     assert_eq!(number("WORK_WORDS"), (plans::LEVEL_WORDS * plans::MAX_DEPTH) as u64);

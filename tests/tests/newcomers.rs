@@ -1,7 +1,7 @@
 //! The numbers of cold reads: how many different extents the log has had, those of a prefix counted too.
 
 use jemqolu_tests::plain::session::WORDS;
-use jemqolu_tests::plain::{summary, trace, COLD, MAX_EXTENTS, MAX_READS};
+use jemqolu_tests::plain::{summary, trace, COLD_BASE, MAX_EXTENTS, MAX_READS};
 use jemqolu_tests::random::Random;
 use jemqolu_tests::tally::Tally;
 use jemqolu_tests::{calls, made, refusal};
@@ -10,7 +10,7 @@ use jemqolu_tests::{calls, made, refusal};
 fn cold_reads(reads: &[u32], words: &[u32]) -> Vec<(u32, u32)> {
     assert_eq!(reads.len(), words.len(), "a word a read");
     let cold = words.iter().zip(reads).filter(|(word, _)| trace::is_cold(**word));
-    cold.map(|(word, extent)| (word - COLD, *extent)).collect()
+    cold.map(|(word, extent)| (word - COLD_BASE, *extent)).collect()
 }
 
 /// The extents of a summary by first read, each after its place, counted from 1.
@@ -99,7 +99,7 @@ fn every_number_of_extents_before() {
     for known in 0..=MAX_EXTENTS {
         let extents = made::extents(&mut random, known + 1);
         let (another, extents) = extents.split_last().expect("one extent or more");
-        let number = COLD + known as u32 + 1;
+        let number = COLD_BASE + known as u32 + 1;
         let wanted = if known == MAX_EXTENTS { Err(refusal::EXTENTS) } else { Ok(number) };
         for warm in [0, 1, 700, MAX_READS as usize - 2 - known] {
             let prefix = made::summary_over(&mut random, extents, warm);
@@ -118,10 +118,10 @@ fn reads_of_known_extents_are_not_counted() {
     let mut tally = Tally::new("numbers after many reads of one extent");
     for reads in [1, 2, 255, 256, 257, 600, 65_535, 65_536, 65_537, MAX_READS as usize - 1] {
         let trace = [vec![5; reads], vec![6]].concat();
-        let words = [vec![COLD + 1], vec![1; reads - 1], vec![COLD + 2]].concat();
+        let words = [vec![COLD_BASE + 1], vec![1; reads - 1], vec![COLD_BASE + 2]].concat();
         tally.same(after(&[0, 0], &trace), words.clone(), &reads);
         let prefix = calls::summarize(&trace[..reads], 5).expect("a trace within the limits");
-        tally.same(after(&prefix, &trace[reads..]), vec![COLD + 2], &reads);
+        tally.same(after(&prefix, &trace[reads..]), vec![COLD_BASE + 2], &reads);
         if reads <= 600 {
             tally.same(read_all(&trace).0, words, &reads);
         }
@@ -133,7 +133,7 @@ fn reads_of_known_extents_are_not_counted() {
 fn the_largest_number_is_that_of_the_limit_of_extents() {
     let mut tally = Tally::new("numbers at 256 and 257 extents");
     let mut random = Random::new(175);
-    let largest = COLD + MAX_EXTENTS as u32;
+    let largest = COLD_BASE + MAX_EXTENTS as u32;
     assert_eq!(largest, 65_792);
     for _ in 0..20 {
         let pool = made::extents(&mut random, MAX_EXTENTS + 1);
@@ -142,7 +142,7 @@ fn the_largest_number_is_that_of_the_limit_of_extents() {
             let prefix = made::summary_over(&mut random, &extents[..cut], 40);
             let part = random.shuffled(&[&extents[cut..], &extents[..cut]].concat());
             let words = after(&prefix, &part);
-            let above = words.iter().copied().filter(|word| *word > COLD).max();
+            let above = words.iter().copied().filter(|word| *word > COLD_BASE).max();
             tally.same(above, (cut < MAX_EXTENTS).then_some(largest), &(&prefix, &part));
             let part = [part.as_slice(), &[*another]].concat();
             tally.same(calls::distances(&prefix, &part, part.len()), Err(refusal::EXTENTS), &(&prefix, &part));

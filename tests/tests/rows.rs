@@ -2,7 +2,7 @@
 //! four quiet wrong joins.
 
 use jemqolu_tests::plain::session::{Reading, READS, WORDS};
-use jemqolu_tests::plain::COLD;
+use jemqolu_tests::plain::COLD_BASE;
 use jemqolu_tests::random::Random;
 use jemqolu_tests::{calls, made, refusal, Answer};
 
@@ -27,7 +27,7 @@ fn reading(word: u32, sums_read: u32) -> Answer<Reading> {
 #[test]
 fn the_seven_reads() {
     let (session, answers) = read_all(&SEVEN);
-    let wanted = [(COLD + 1, 0), (COLD + 2, 0), (2, 9), (COLD + 3, 0), (3, 8), (1, 8), (2, 7)];
+    let wanted = [(COLD_BASE + 1, 0), (COLD_BASE + 2, 0), (2, 9), (COLD_BASE + 3, 0), (3, 8), (1, 8), (2, 7)];
     assert_eq!(answers, wanted.map(|(word, sums_read)| reading(word, sums_read)));
     assert_eq!(calls::session_summary(&session, 11), Ok(SUMMARY.to_vec()));
     assert_eq!(calls::distances(&[0, 0], &SEVEN, 7), Ok(SEVEN_WORDS.to_vec()));
@@ -89,7 +89,7 @@ fn one_extent_at_read_512_and_513() {
 fn the_256_extents_and_another() {
     let extents: Vec<u32> = (0..256).collect();
     let (mut session, answers) = read_all(&extents);
-    assert_eq!(answers, (1..=256).map(|number| reading(COLD + number, 0)).collect::<Vec<Answer<Reading>>>());
+    assert_eq!(answers, (1..=256).map(|number| reading(COLD_BASE + number, 0)).collect::<Vec<Answer<Reading>>>());
     assert_eq!(answers[255], reading(65_792, 0));
     assert_eq!(calls::session_read(&mut session, 256), Err(refusal::EXTENTS));
     assert_eq!(calls::session_read(&mut session, 0), reading(256, 9));

@@ -1,7 +1,7 @@
 //! Sessions read by read, word for word.
 
 use jemqolu_tests::plain::session::{self, Reading, FIRSTS, NEXT, READS, SLOTS, WORDS};
-use jemqolu_tests::plain::{summary, COLD, MAX_EXTENTS, MAX_READS};
+use jemqolu_tests::plain::{summary, COLD_BASE, MAX_EXTENTS, MAX_READS};
 use jemqolu_tests::random::Random;
 use jemqolu_tests::room::{rooms, within};
 use jemqolu_tests::tally::Tally;
@@ -202,7 +202,7 @@ fn refusals_in_order() {
         (&known[..], most, false, Err(refusal::READS)),
         (&known[..1], most, false, Err(refusal::READS)),
         (&known[..], most - 1, false, Err(refusal::EXTENTS)),
-        (&known[..255], most - 1, false, Ok(Reading { word: COLD as usize + MAX_EXTENTS, sums_read: 0 })),
+        (&known[..255], most - 1, false, Ok(Reading { word: COLD_BASE as usize + MAX_EXTENTS, sums_read: 0 })),
     ] {
         let mut words = session(known, reads, damaged);
         let wanted_summary = if damaged { Err(refusal::STATE) } else { Err(refusal::ROOM) };

@@ -3,7 +3,7 @@
 use jemqolu_tests::header::number;
 use jemqolu_tests::plain::plans::{Plan, LEVEL_WORDS, MAX_DEPTH, MAX_PARTS};
 use jemqolu_tests::plain::splits::{MAX_CUSTOMERS, MAX_STORE};
-use jemqolu_tests::plain::{logs, session, COLD, MAX_READS};
+use jemqolu_tests::plain::{logs, session, COLD_BASE, MAX_READS};
 use jemqolu_tests::{ffi, Answer};
 use std::thread;
 
@@ -91,7 +91,7 @@ fn sessions() {
 fn watches() {
     let (mut words, mut share) = ([0; 4], 0.0);
     assert_eq!(with_little_stack(|| ffi::watch_new(9, &mut words)), Ok(4));
-    assert_eq!(with_little_stack(|| ffi::watch_read(&mut words, COLD + 1)), Ok(0));
+    assert_eq!(with_little_stack(|| ffi::watch_read(&mut words, COLD_BASE + 1)), Ok(0));
     assert_eq!(with_little_stack(|| ffi::watch_read(&mut words, 3)), Ok(0));
     assert_eq!(with_little_stack(|| ffi::watch_misses(&words)), Ok(1));
     assert_eq!(with_little_stack(|| ffi::watch_share(&words, &mut share)), Ok(1));

@@ -1,7 +1,7 @@
 //! Watches on one cache size.
 
 use jemqolu_tests::plain::session::WORDS;
-use jemqolu_tests::plain::{cache, hit_share, trace, watch, COLD, MAX_EXTENTS, MAX_READS};
+use jemqolu_tests::plain::{cache, hit_share, trace, watch, COLD_BASE, MAX_EXTENTS, MAX_READS};
 use jemqolu_tests::random::Random;
 use jemqolu_tests::tally::Tally;
 use jemqolu_tests::{calls, made, refusal};
@@ -10,10 +10,19 @@ const MOST: u32 = MAX_READS as u32;
 /// The largest distance, and the largest number of a cold read.
 const LAST: u32 = MAX_EXTENTS as u32;
 /// Words that are a distance or a cold read, at the edges of both.
-const TAKEN: [u32; 8] = [1, 2, LAST - 1, LAST, COLD + 1, COLD + 2, COLD + LAST - 1, COLD + LAST];
+const TAKEN: [u32; 8] = [1, 2, LAST - 1, LAST, COLD_BASE + 1, COLD_BASE + 2, COLD_BASE + LAST - 1, COLD_BASE + LAST];
 /// Words that are neither, which are refused.
-const REFUSED: [u32; 9] =
-    [0, LAST + 1, COLD - 1, COLD, COLD + LAST + 1, 2 * COLD + 1, (1 << 31) + 1, (1 << 31) + COLD + 1, u32::MAX];
+const REFUSED: [u32; 9] = [
+    0,
+    LAST + 1,
+    COLD_BASE - 1,
+    COLD_BASE,
+    COLD_BASE + LAST + 1,
+    2 * COLD_BASE + 1,
+    (1 << 31) + 1,
+    (1 << 31) + COLD_BASE + 1,
+    u32::MAX,
+];
 
 /// Words at the edges of what a watch is given.
 fn edge_words() -> Vec<u32> {
@@ -81,7 +90,7 @@ fn words_at_the_edges() {
 fn every_word_to_past_the_cold_reads() {
     let mut tally = Tally::new("every word to past the cold reads");
     for words in [[4, 9, 3, 2], [u32::MAX, 9, 3, 2], [4, MOST, 3, 2], [4, 9, 8, 2]] {
-        for word in 0..COLD + 2 * LAST {
+        for word in 0..COLD_BASE + 2 * LAST {
             compare(&mut tally, &words, word);
         }
     }
@@ -91,11 +100,11 @@ fn every_word_to_past_the_cold_reads() {
 #[test]
 fn the_number_of_a_cold_read_is_disregarded() {
     let mut tally = Tally::new("watches and the numbers of cold reads");
-    for size in [0, 1, 2, LAST - 1, LAST, LAST + 1, COLD, COLD + 1, COLD + LAST, u32::MAX] {
+    for size in [0, 1, 2, LAST - 1, LAST, LAST + 1, COLD_BASE, COLD_BASE + 1, COLD_BASE + LAST, u32::MAX] {
         for [reads, cold, hits] in [[0, 0, 0], [1, 0, 0], [7, 3, 3], [300, 256, 44], [MOST - 1, 0, MOST - 1]] {
             for number in 1..=LAST {
                 let mut words = vec![size, reads, cold, hits];
-                tally.same(calls::watch_read(&mut words, COLD + number), Ok(0), &(size, reads, number));
+                tally.same(calls::watch_read(&mut words, COLD_BASE + number), Ok(0), &(size, reads, number));
                 tally.same(words, vec![size, reads + 1, cold + 1, hits], &(size, reads, number));
             }
         }
@@ -151,7 +160,7 @@ fn random_words() {
         let hits = random.below((reads + 2).saturating_sub(cold).max(1));
         let (size, number, any) = (random.below(300) as u32, random.below(300) as u32, random.word());
         let bit = 1 << random.below(32);
-        let word = random.of(&[number, COLD + number, number ^ bit, (COLD + number) ^ bit, bit, any]);
+        let word = random.of(&[number, COLD_BASE + number, number ^ bit, (COLD_BASE + number) ^ bit, bit, any]);
         compare(&mut tally, &[size, reads as u32, cold as u32, hits as u32], word);
     }
     tally.at_least(160_000);
@@ -178,7 +187,7 @@ fn watches_of_traces() {
         let (most_reads, most_extents) = if round % 2 == 0 { (200, 20) } else { (1200, 256) };
         let reads = made::trace(&mut random, most_reads, most_extents);
         let (given, plain) = (words_of(&mut random, &reads), trace::distances(&reads));
-        let size = random.of(&[0, 1, 2, 3, 5, 8, 13, 21, 34, 55, 89, 144, 200, 255, 256, COLD + 3, u32::MAX]);
+        let size = random.of(&[0, 1, 2, 3, 5, 8, 13, 21, 34, 55, 89, 144, 200, 255, 256, COLD_BASE + 3, u32::MAX]);
         let mut words = calls::watch_new(size, 4).expect("a new watch");
         let mut wanted = watch::new(size);
         for (word, plain) in given.iter().zip(&plain) {

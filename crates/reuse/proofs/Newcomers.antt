@@ -8,23 +8,12 @@ use lib.ListN.{length}
 use Rattle.reuse.specs.Lists.{mem, firsts, distinct, from, count}
 use Rattle.reuse.specs.Lru.{Reuse, cold, at, touch, stack, reuses, newcomers, isCold}
 use Rattle.reuse.specs.Summary.{firstOf, recentOf, extentsOf}
-use Rattle.reuse.proofs.Lists.{by-test, mem-append, remove-absent}
-use Rattle.reuse.proofs.Distinct.{length-remove}
-use Rattle.reuse.proofs.Stack.{reuses-append, length-stack, distinct-touch}
+use Rattle.reuse.proofs.Lists.{by-test, mem-append}
+use Rattle.reuse.proofs.Stack.{reuses-append, length-stack, distinct-touch, length-known, length-new}
 use Rattle.reuse.proofs.Depth.{depth-absent, depth-present, length-before}
 use Rattle.reuse.proofs.Across.{mem-over}
 use Rattle.reuse.proofs.Words.{recent-length}
 use Rattle.reuse.proofs.Formed.{Formed, recent-distinct, recent-first, prefix-stack}
-
--- a read of what the stack holds leaves its length
-known-size : (s : List ℕ) (x : ℕ) → distinct s ≡ true → mem x s ≡ true → length (touch s x) ≡ length s
-unfolding touch
-known-size s x d m = length-remove x s d m
-
--- a read of anything else makes it one longer
-new-size : (s : List ℕ) (x : ℕ) → mem x s ≡ false → length (touch s x) ≡ suc (length s)
-unfolding touch
-new-size s x m = ap (λ (r : List ℕ). suc (length r)) (remove-absent x s m)
 
 -- the stack is longer by the cold reads
 pub cold-longer : (s t : List ℕ) → distinct s ≡ true → length s + count isCold (reuses s t) ≡ length (foldl touch s t)
@@ -33,8 +22,8 @@ cold-longer s [] d = omega arith
 cold-longer s (x ∷ t) d =
     let i : length (touch s x) + count isCold (reuses (touch s x) t) ≡ length (foldl touch (touch s x) t) = cold-longer (touch s x) t (distinct-touch s x d) in
     by-test (mem x s)
-    (λ m. simp (depth-present x s m) (omega (arith, known-size s x d m)))
-    (λ m. simp (depth-absent x s m) (omega (arith, new-size s x m)))
+    (λ m. simp (depth-present x s m) (omega (arith, length-known s x d m)))
+    (λ m. simp (depth-absent x s m) (omega (arith, length-new s x m)))
 
 -- the cold reads of a trace are as many as its different extents
 pub cold-count : (t : List ℕ) → count isCold (reuses [] t) ≡ length (firsts t)
@@ -48,8 +37,8 @@ numbers-follow s [] d = refl
 numbers-follow s (x ∷ t) d =
     let i : newcomers (reuses (touch s x) t) ≡ from (suc (length (touch s x))) (count isCold (reuses (touch s x) t)) = numbers-follow (touch s x) t (distinct-touch s x d) in
     by-test (mem x s)
-    (λ m. simp (depth-present x s m) (rw (known-size s x d m) at i))
-    (λ m. simp (depth-absent x s m) (ap {B = List ℕ} (λ l. suc (length s) ∷ l) (rw (new-size s x m) at i)))
+    (λ m. simp (depth-present x s m) (rw (length-known s x d m) at i))
+    (λ m. simp (depth-absent x s m) (ap {B = List ℕ} (λ l. suc (length s) ∷ l) (rw (length-new s x m) at i)))
 
 -- of a trace they are 1, 2, and so on to the number of its extents
 pub trace-numbers : (t : List ℕ) → newcomers (reuses [] t) ≡ from 1 (length (firsts t))
@@ -73,8 +62,8 @@ answers-up-to n s [] d l = tt
 answers-up-to n s (x ∷ t) d l =
     let i : AllUpTo n (reuses (touch s x) t) = answers-up-to n (touch s x) t (distinct-touch s x d) l in
     by-test (mem x s)
-    (λ m. rw (depth-present x s m) ((omega arith, omega (arith, length-before x s m, known-size s x d m, cold-longer (touch s x) t (distinct-touch s x d))), i))
-    (λ m. rw (depth-absent x s m) ((omega arith, omega (arith, new-size s x m, cold-longer (touch s x) t (distinct-touch s x d))), i))
+    (λ m. rw (depth-present x s m) ((omega arith, omega (arith, length-before x s m, length-known s x d m, cold-longer (touch s x) t (distinct-touch s x d))), i))
+    (λ m. rw (depth-absent x s m) ((omega arith, omega (arith, length-new s x m, cold-longer (touch s x) t (distinct-touch s x d))), i))
 
 -- so those to a trace, by the number of its extents
 pub trace-up-to : (n : ℕ) (t : List ℕ) → length (firsts t) ≤ n → AllUpTo n (reuses [] t)

@@ -2,12 +2,12 @@
 use mathlib.Core.Path.{_≡_, refl, sym, ap, _∙_}
 use Prim.Native.Nat.{ℕ, suc}
 use mathlib.Core.List.{List, [], _∷_, _++_, reverse, foldl, append-nil, append-assoc, reverse-cons, foldl-append}
-use mathlib.Core.Bool.{true}
+use mathlib.Core.Bool.{true, false}
 use lib.ListN.{length, length-reverse}
 use Rattle.reuse.specs.Lists.{mem, remove, cleanup, firsts, distinct, outside}
 use Rattle.reuse.specs.Lru.{Reuse, depth, touch, stack, reuses}
-use Rattle.reuse.proofs.Lists.{by-test, eqb-same, mem-remove, mem-cleanup, mem-reverse, outside-same, outside-none, outside-remove}
-use Rattle.reuse.proofs.Distinct.{distinct-cons, distinct-remove, distinct-cleanup, cleanup-distinct, length-cleanup}
+use Rattle.reuse.proofs.Lists.{by-test, eqb-same, mem-remove, mem-cleanup, mem-reverse, outside-same, outside-none, outside-remove, remove-absent}
+use Rattle.reuse.proofs.Distinct.{distinct-cons, distinct-remove, distinct-cleanup, cleanup-distinct, length-remove, length-cleanup}
 
 -- the answers to two traces end to end: those to the first, then those to the second from the stack after the first
 pub reuses-append : (s a b : List ℕ) → reuses s (a ++ b) ≡ reuses s a ++ reuses (foldl touch s a) b
@@ -64,7 +64,17 @@ pub distinct-touch : (s : List ℕ) (x : ℕ) → distinct s ≡ true → distin
 unfolding touch
 distinct-touch s x h = distinct-cons x (remove x s) (simp (mem-remove, eqb-same)) (distinct-remove x s h)
 
--- so no trace does
+-- a read of what the stack holds leaves its length
+pub length-known : (s : List ℕ) (x : ℕ) → distinct s ≡ true → mem x s ≡ true → length (touch s x) ≡ length s
+unfolding touch
+length-known s x d m = length-remove x s d m
+
+-- a read of anything else makes it one longer
+pub length-new : (s : List ℕ) (x : ℕ) → mem x s ≡ false → length (touch s x) ≡ suc (length s)
+unfolding touch
+length-new s x m = ap (λ (r : List ℕ). suc (length r)) (remove-absent x s m)
+
+-- no trace makes repeats
 pub distinct-from : (s t : List ℕ) → distinct s ≡ true → distinct (foldl touch s t) ≡ true
 distinct-from s [] h = h
 distinct-from s (x ∷ t) h = distinct-from (touch s x) t (distinct-touch s x h)

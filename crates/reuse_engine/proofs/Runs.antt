@@ -12,8 +12,7 @@ use Rattle.reuse_engine.specs.declared.Place.the-variants.{Cold, Depth, 
 use Rattle.reuse.specs.Lists.{mem, distinct}
 use Rattle.reuse.specs.Lru.{at, depth, touch, reuses}
 use Rattle.reuse_engine.specs.Engine.{placeOf, lifted, leftBy}
-use Rattle.reuse.proofs.Lists.{remove-absent}
-use Rattle.reuse.proofs.Stack.{reuses-append, distinct-from}
+use Rattle.reuse.proofs.Stack.{reuses-append, distinct-from, length-new}
 use Rattle.reuse.proofs.Across.{stack-grows}
 use Rattle.reuse_engine.proofs.Engine.{place-new, place-full, place-counts, touched-known, touched-new}
 
@@ -74,10 +73,7 @@ module _ (stack : List ℕ) (n : ℕ) (reads : List ℕ) where
 
       -- a new extent makes the stack one longer
       new-size : mem (getD reads i 0) (take held row) ≡ false → length (foldl touch (take n stack) (take (i + 1) reads)) ≡ suc held
-      unfolding touch
-      new-size e =
-          ap length next-stack
-          ∙ ap suc (ap length (remove-absent (getD reads i 0) (take held row) e) ∙ length-take-le held row held-fits)
+      new-size e = ap length next-stack ∙ length-new (take held row) (getD reads i 0) e ∙ ap suc (length-take-le held row held-fits)
 
       -- a cold read
       pub run-cold : placeOf row held (getD reads i 0) ≡ Cold → Running stack n reads (lifted (suc held) (getD reads i 0) row) (held + 1) (i + 1)

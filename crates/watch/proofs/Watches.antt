@@ -3,20 +3,19 @@ use mathlib.Core.Path.{_≡_, refl, ap, _∙_}
 use Prim.Native.Nat.{ℕ, suc, _+_, _-_, _≤_}
 use native.Mathlib.Omega.{arith}
 use mathlib.Core.List.{List, [], _∷_}
-use mathlib.Core.Bool.{true}
-use lib.Dec.{eqb, leb}
+use lib.Dec.{leb}
 use lib.ListN.{length}
 use borrow.Author.Tests.{ne-eqb, le-leb}
 use Rattle.reuse.specs.Limits.{maxReads, maxExtents}
-use Rattle.reuse.specs.Lists.{mem, firsts, count}
+use Rattle.reuse.specs.Lists.{firsts, count}
 use Rattle.reuse.specs.Lru.{Reuse, cold, at, reuses, isCold, within, missesAt}
 use Rattle.reuse.specs.Summary.{summaryOf, missesOf}
-use Rattle.reuse.proofs.Lists.{by-test, clash, mem-head, mem-tail}
+use Rattle.reuse.proofs.Lists.{by-test}
 use Rattle.reuse.proofs.Stack.{length-reuses}
-use Rattle.reuse.proofs.Counts.{finite, count-append}
+use Rattle.reuse.proofs.Counts.{count-append}
 use Rattle.reuse.proofs.Words.{reads-summary}
-use Rattle.reuse.proofs.Join.{reuse-range}
 use Rattle.reuse.proofs.Formed.{summary-formed}
+use Rattle.reuse.proofs.Newcomers.{UpTo, AllUpTo, trace-up-to}
 use Rattle.reuse.proofs.Misses.{within-misses, summary-misses, summary-hits}
 use Rattle.summary_calls.specs.declared.MissCount.the-variants.{Misses}
 use Rattle.summary_calls.specs.declared.ShareAnswer.the-variants.{Answered}
@@ -37,45 +36,27 @@ heard-step s x (at d) = refl
 abbrev watchOf : ℕ → ℕ → ℕ → ℕ → Watch
 watchOf size reads new hits = record { size = size; reads = reads; cold = new; hits = hits }
 
--- each distance is one that the watch takes
-abbrev Ranged : List Reuse → Type 0
-Ranged rs = (d : ℕ) → mem d (finite rs) ≡ true → (1 ≤ d) × (d ≤ maxExtents)
-
 -- a read is cold, a hit, or neither
 one-read : (c : ℕ) (r : Reuse) → count isCold (r ∷ []) + count (within c) (r ∷ []) ≤ 1
 unfolding count
 one-read c (cold n) = omega arith
 one-read c (at d) = by-test (leb d c) (λ e. simp e (omega arith)) (λ e. simp e (omega arith))
 
--- a distance of the first answer is one of all
-finite-head : (r : Reuse) (rs : List Reuse) (d : ℕ) → mem d (finite (r ∷ [])) ≡ true → mem d (finite (r ∷ rs)) ≡ true
-unfolding finite mem
-finite-head (cold n) rs d m = clash m refl
-finite-head (at e) rs d m = by-test (eqb d e) (λ q. simp q) (λ q. clash m (simp q))
-
--- so is one of the others
-finite-tail : (r : Reuse) (rs : List Reuse) (d : ℕ) → mem d (finite rs) ≡ true → mem d (finite (r ∷ rs)) ≡ true
-unfolding finite
-finite-tail (cold n) rs d m = m
-finite-tail (at e) rs d m = mem-tail d e (finite rs) m
-
 -- one answer
-one : (w : Watch) (r : Reuse) → Sound w → suc (w .reads) ≤ maxReads → Ranged (r ∷ [])
+one : (w : Watch) (r : Reuse) → Sound w → suc (w .reads) ≤ maxReads → UpTo maxExtents r
     → notedOf w (readingOf r) .watch ≡ watchOf (w .size) (w .reads + 1) (w .cold + count isCold (r ∷ [])) (w .hits + count (within (w .size)) (r ∷ []))
-unfolding notedOf countedBy count finite
+unfolding notedOf countedBy count
 one w (cold n) s l h = rw (watch-sound w s, ne-eqb (w .reads) maxReads (λ e. omega arith))
-one w (at d) s l h =
-    let p = h d (mem-head d []) in
-    rw (watch-sound w s, le-leb 1 d (p .0), le-leb d maxExtents (p .1), ne-eqb (w .reads) maxReads (λ e. omega arith))
+one w (at d) s l h = rw (watch-sound w s, le-leb 1 d (h .0), le-leb d maxExtents (h .1), ne-eqb (w .reads) maxReads (λ e. omega arith))
 
 -- two watches with the same counts
 same : (size : ℕ) (a b c d e f : ℕ) → a ≡ b → c ≡ d → e ≡ f → watchOf size a c e ≡ watchOf size b d f
 same size a b c d e f p q r = rw (p, q, r)
 
 -- a list of answers
-pub fed : (w : Watch) (rs : List Reuse) → Sound w → w .reads + length rs ≤ maxReads → Ranged rs
+pub fed : (w : Watch) (rs : List Reuse) → Sound w → w .reads + length rs ≤ maxReads → AllUpTo maxExtents rs
     → watchAfter w rs ≡ watchOf (w .size) (w .reads + length rs) (w .cold + count isCold rs) (w .hits + count (within (w .size)) rs)
-unfolding watchAfter
+unfolding watchAfter AllUpTo
 fed w [] s l h = unfold count in same (w .size) (w .reads) (w .reads + 0) (w .cold) (w .cold + 0) (w .hits) (w .hits + 0) (omega arith) (omega arith) (omega arith)
 fed w (r ∷ rs) s l h =
     let n : ℕ = count isCold (r ∷ []) in
@@ -84,8 +65,8 @@ fed w (r ∷ rs) s l h =
     let cs : count isCold (r ∷ rs) ≡ n + count isCold rs = count-append isCold (r ∷ []) rs in
     let hs : count (within (w .size)) (r ∷ rs) ≡ k + count (within (w .size)) rs = count-append (within (w .size)) (r ∷ []) rs in
     let sv : Sound v = record { fits = omega (arith, s .fits, one-read (w .size) r); short = omega arith } in
-    rw (one w r s (omega arith) (λ d m. h d (finite-head r rs d m)))
-    (fed v rs sv (omega arith) (λ d m. h d (finite-tail r rs d m))
+    rw (one w r s (omega arith) (h .0))
+    (fed v rs sv (omega arith) (h .1)
     ∙ same (w .size) (w .reads + 1 + length rs) (w .reads + suc (length rs))
     (w .cold + n + count isCold rs) (w .cold + count isCold (r ∷ rs))
     (w .hits + k + count (within (w .size)) rs) (w .hits + count (within (w .size)) (r ∷ rs))
@@ -97,7 +78,7 @@ module _ (c : ℕ) (t : List ℕ) (short : length t ≤ maxReads) (few : length 
   pub watch-trace : watchAfter (newOf c) (reuses [] t) ≡ watchOf c (length t) (count isCold (reuses [] t)) (count (within c) (reuses [] t))
   watch-trace =
       let n : length (reuses [] t) ≡ length t = length-reuses [] t in
-      fed (newOf c) (reuses [] t) (record { fits = omega arith; short = omega arith }) (omega arith) (λ d m. omega (arith, reuse-range t d m))
+      fed (newOf c) (reuses [] t) (record { fits = omega arith; short = omega arith }) (omega arith) (trace-up-to maxExtents t few)
       ∙ same c (0 + length (reuses [] t)) (length t) (0 + count isCold (reuses [] t)) (count isCold (reuses [] t)) (0 + count (within c) (reuses [] t)) (count (within c) (reuses [] t))
       (omega arith) (omega arith) (omega arith)
 

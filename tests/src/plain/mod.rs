@@ -17,7 +17,7 @@ pub const MAX_READS: u64 = 1_048_576;
 pub const MAX_EXTENTS: usize = 256;
 
 /// A cold read is written as this plus its number: how many different extents the log has had, its own included.
-pub const COLD: u32 = 65_536;
+pub const COLD_BASE: u32 = 65_536;
 
 /// Hits divided by all reads, or none where there are no reads.
 pub fn hit_share(hits: u64, reads: u64) -> Option<f64> {

@@ -1,7 +1,7 @@
 //! Sessions as words, in slots and sums.
 
 use super::summary;
-use super::{hit_share, COLD, MAX_EXTENTS, MAX_READS};
+use super::{hit_share, COLD_BASE, MAX_EXTENTS, MAX_READS};
 use crate::{refusal, Answer};
 use std::ops::Range;
 
@@ -23,8 +23,8 @@ pub const SUMS: Range<usize> = 1025..2048;
 /// Where the next slot stands.
 pub const NEXT: usize = 2048;
 
-/// What a read answers: its word, which is its distance or for a cold read COLD plus its number, and the number of sums
-/// that it looked at.
+/// What a read answers: its word, which is its distance or for a cold read COLD_BASE plus its number, and the number of
+/// sums that it looked at.
 #[derive(Clone, Copy, PartialEq, Eq, Debug)]
 pub struct Reading {
     pub word: usize,
@@ -164,7 +164,7 @@ pub fn accept(words: &mut [u32], extent: u32) -> Reading {
         None => {
             let v = marks(words).len();
             words[FIRSTS][v] = extent;
-            Reading { word: COLD as usize + v + 1, sums_read: 0 }
+            Reading { word: COLD_BASE as usize + v + 1, sums_read: 0 }
         }
     };
     put(words, words[NEXT] as usize, extent, 1);

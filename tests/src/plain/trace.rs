@@ -1,7 +1,7 @@
-//! Traces: their extents, and the words of their reads. A read's word is its reuse distance, or for a cold read COLD
+//! Traces: their extents, and the words of their reads. A read's word is its reuse distance, or for a cold read COLD_BASE
 //! plus its number.
 
-use super::COLD;
+use super::COLD_BASE;
 use std::collections::HashSet;
 
 /// The different extents of a trace by first read.
@@ -26,12 +26,12 @@ pub fn different(extents: &[u32]) -> usize {
 
 /// Whether a word is that of a cold read.
 pub fn is_cold(word: u32) -> bool {
-    word > COLD
+    word > COLD_BASE
 }
 
 /// The numbers of the cold reads among these words, in order.
 pub fn numbers(words: &[u32]) -> Vec<u32> {
-    words.iter().filter(|word| is_cold(**word)).map(|word| word - COLD).collect()
+    words.iter().filter(|word| is_cold(**word)).map(|word| word - COLD_BASE).collect()
 }
 
 /// Whether a read is a hit in the cache of a size, by its word.
@@ -46,7 +46,7 @@ pub fn distances(trace: &[u32]) -> Vec<u32> {
         let before = &trace[..read];
         match before.iter().rposition(|extent| *extent == trace[read]) {
             Some(previous) => different(&before[previous..]) as u32,
-            None => COLD + 1 + different(before) as u32,
+            None => COLD_BASE + 1 + different(before) as u32,
         }
     };
     (0..trace.len()).map(word).collect()
@@ -56,7 +56,7 @@ pub fn distances(trace: &[u32]) -> Vec<u32> {
 pub struct Stack(pub Vec<u32>);
 
 impl Stack {
-    /// One more read; its place in the stack, counted from 1, or where it is not there COLD plus the height of the
+    /// One more read; its place in the stack, counted from 1, or where it is not there COLD_BASE plus the height of the
     /// stack with it on top.
     pub fn read(&mut self, extent: u32) -> u32 {
         let place = self.0.iter().position(|other| *other == extent);
@@ -64,7 +64,7 @@ impl Stack {
             self.0.remove(place);
         }
         self.0.insert(0, extent);
-        place.map_or(COLD + self.0.len() as u32, |place| place as u32 + 1)
+        place.map_or(COLD_BASE + self.0.len() as u32, |place| place as u32 + 1)
     }
 
     /// The words of more reads.

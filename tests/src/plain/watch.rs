@@ -1,6 +1,6 @@
 //! Watches as words: the size, the reads, the cold reads, the hits.
 
-use super::{hit_share, COLD, MAX_EXTENTS, MAX_READS};
+use super::{hit_share, COLD_BASE, MAX_EXTENTS, MAX_READS};
 use crate::{refusal, Answer};
 
 /// The words of a watch.
@@ -25,11 +25,11 @@ pub fn new(size: u32) -> Vec<u32> {
     vec![size, 0, 0, 0]
 }
 
-/// The call for one more read's word: a distance, or COLD plus any number that a cold read can have. A refusal leaves
-/// the watch as it was.
+/// The call for one more read's word: a distance, or COLD_BASE plus any number that a cold read can have. A refusal
+/// leaves the watch as it was.
 pub fn read(words: &mut [u32], word: u32) -> Answer<u64> {
     let [reads, ..] = sound(words)?;
-    let (warm, cold) = ((1..=MOST).contains(&word), (COLD + 1..=COLD + MOST).contains(&word));
+    let (warm, cold) = ((1..=MOST).contains(&word), (COLD_BASE + 1..=COLD_BASE + MOST).contains(&word));
     if !warm && !cold {
         return Err(refusal::NUMBER);
     }
