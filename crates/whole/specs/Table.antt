@@ -49,7 +49,7 @@ turnedWords = 4 ∷ 2 ∷ 1 ∷ 2 ∷ 1 ∷ 2 ∷ 1 ∷ 1 ∷ []
 abbrev pub later : List ℕ
 later = 3 ∷ 3 ∷ 9 ∷ 8 ∷ []
 
--- well-formed words that no log has: first 4 and then 6, and last 6 and then 4, in two reads
+-- well-formed words that no log has: of two reads the first is of 4 and the last is too, and yet there are two extents
 abbrev pub oddWords : List ℕ
 oddWords = 2 ∷ 2 ∷ 4 ∷ 6 ∷ 4 ∷ 6 ∷ 0 ∷ 0 ∷ []
 
