@@ -7,6 +7,7 @@ use mathlib.Core.Bool.{true, false, or-comm}
 use lib.ListN.{length}
 use Rattle.reuse.specs.Lists.{mem, firsts, distinct, from, count}
 use Rattle.reuse.specs.Lru.{Reuse, cold, at, touch, stack, reuses, newcomers, isCold}
+use Rattle.reuse.specs.Written.{UpTo}
 use Rattle.reuse.specs.Summary.{firstOf, recentOf, extentsOf}
 use Rattle.reuse.proofs.Lists.{by-test, mem-append}
 use Rattle.reuse.proofs.Stack.{reuses-append, length-stack, distinct-touch, length-known, length-new}
@@ -45,12 +46,7 @@ pub trace-numbers : (t : List ℕ) → newcomers (reuses [] t) ≡ from 1 (lengt
 unfolding distinct
 trace-numbers t = numbers-follow [] t refl ∙ ap (from 1) (cold-count t)
 
--- an answer with a number or a distance from 1 to n
-abbrev pub UpTo : ℕ → Reuse → Type 0
-UpTo n (cold k) = (1 ≤ k) × (k ≤ n)
-UpTo n (at d) = (1 ≤ d) × (d ≤ n)
-
--- a list of such answers
+-- a list of answers with numbers and distances from 1 to n
 unfoldable pub AllUpTo : ℕ → List Reuse → Type 0
 AllUpTo n [] = Unit {0}
 AllUpTo n (r ∷ rs) = UpTo n r × AllUpTo n rs

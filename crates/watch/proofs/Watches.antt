@@ -9,13 +9,14 @@ use borrow.Author.Tests.{ne-eqb, le-leb}
 use Rattle.reuse.specs.Limits.{maxReads, maxExtents}
 use Rattle.reuse.specs.Lists.{firsts, count}
 use Rattle.reuse.specs.Lru.{Reuse, cold, at, reuses, isCold, within, missesAt}
+use Rattle.reuse.specs.Written.{UpTo}
 use Rattle.reuse.specs.Summary.{summaryOf, missesOf}
 use Rattle.reuse.proofs.Lists.{by-test}
 use Rattle.reuse.proofs.Stack.{length-reuses}
 use Rattle.reuse.proofs.Counts.{count-append}
 use Rattle.reuse.proofs.Words.{reads-summary}
 use Rattle.reuse.proofs.Formed.{summary-formed}
-use Rattle.reuse.proofs.Newcomers.{UpTo, AllUpTo, trace-up-to}
+use Rattle.reuse.proofs.Newcomers.{AllUpTo, trace-up-to}
 use Rattle.reuse.proofs.Misses.{within-misses, summary-misses, summary-hits}
 use Rattle.summary_calls.specs.declared.MissCount.the-variants.{Misses}
 use Rattle.summary_calls.specs.declared.ShareAnswer.the-variants.{Answered}

@@ -1,17 +1,17 @@
 -- A watch in words takes the words of the distance buffer as a watch takes the answers.
 use mathlib.Core.Path.{_≡_, refl, ap, _∙_}
-use Prim.Native.Nat.{ℕ, _+_, _≤_}
+use Prim.Native.Nat.{ℕ, _+_, _-_, _≤_, _<_}
 use native.Mathlib.Omega.{arith}
 use mathlib.Core.List.{List, [], _∷_, map}
 use mathlib.Core.Bool.{Bool, true, false, cond}
-use lib.Dec.{eqb, leb}
+use lib.Dec.{eqb, leb, ltb}
 use lib.ListN.{length}
-use borrow.Author.Tests.{le-leb, lt-ltb}
+use borrow.Author.Tests.{leb-true, ltb-true, le-leb, lt-ltb}
 use Rattle.reuse.specs.Limits.{maxReads, maxExtents}
 use Rattle.reuse.specs.Lru.{Reuse, cold, at}
-use Rattle.reuse.specs.Written.{coldBase, wordOf}
-use Rattle.reuse.proofs.Lists.{by-test}
-use Rattle.reuse.proofs.Newcomers.{UpTo, AllUpTo}
+use Rattle.reuse.specs.Written.{coldBase, wordOf, UpTo}
+use Rattle.reuse.proofs.Lists.{by-test, both}
+use Rattle.reuse.proofs.Newcomers.{AllUpTo}
 use Rattle.reuse_rows.specs.Rows.{putAt}
 use Rattle.watch.specs.declared.Watch.{Watch}
 use Rattle.watch.specs.declared.Reading.{Reading}
@@ -19,16 +19,39 @@ use Rattle.watch.specs.declared.Reading.the-variants.{Cold, Distance}
 use Rattle.watch.specs.declared.Outcome.{Outcome}
 use Rattle.watch.specs.declared.Outcome.the-variants.{Counted, Refused as NotCounted}
 use Rattle.watch.specs.declared.Change.{Change}
-use Rattle.watch.specs.Watching.{soundOf, countedBy, takes, counts, notedOf, readingOf, watchAfter}
-use Rattle.watch_words.specs.Layout.{watchLength, watchLaid}
-use Rattle.watch_words.specs.Calls.{readingAt, noteIn, watchLeft, wordsAfter}
-use Rattle.watch_words.proofs.Kept.{note-kept, reading-is, not-above}
+use Rattle.watch.specs.Watching.{soundOf, countedBy, inRange, takes, counts, notedOf, readingOf, watchAfter}
+use Rattle.watch_words.specs.Layout.{watchLength, watchIn, watchLaid}
+use Rattle.watch_words.specs.Calls.{isColdWord, readingAt, noteIn, watchLeft, wordsAfter}
+use Rattle.watch_words.specs.Taking.{Taking}
+use Rattle.watch_words.proofs.Kept.{note-all, note-kept, reading-is, not-above}
 
 -- the word of an answer within the limit is taken as the answer: a cold one without its number
 pub word-reading : (r : Reuse) → UpTo maxExtents r → readingAt (wordOf r) ≡ readingOf r
 word-reading (cold n) l =
     reading-is (coldBase + n) true (simp (lt-ltb coldBase (coldBase + n) (omega (arith, l .0)), le-leb (coldBase + n) (coldBase + maxExtents) (omega (arith, l .1))))
 word-reading (at d) l = reading-is d false (not-above d (omega (arith, l .1)))
+
+-- a word that no answer within the limit is written as is no cold read's, nor a distance
+untaken : (d : ℕ) → ((r : Reuse) → UpTo maxExtents r → wordOf r ≡ d → ⊥) → takes (readingAt d) ≡ false
+untaken d h =
+    by-test (isColdWord d)
+    (λ c. let p = both (ltb coldBase d) (leb d (coldBase + maxExtents)) c in
+    let a : coldBase < d = ltb-true coldBase d (p .0) in
+    let b : d ≤ coldBase + maxExtents = leb-true d (coldBase + maxExtents) (p .1) in
+    absurd (h (cold (d - coldBase)) (omega arith, omega arith) (omega arith)))
+    (λ c. ap takes (reading-is d false c)
+    ∙ by-test (inRange d)
+    (λ i. let p = both (leb 1 d) (leb d maxExtents) i in absurd (h (at d) (leb-true 1 d (p .0), leb-true d maxExtents (p .1)) refl))
+    (λ i. i))
+
+-- what words that hold a sound watch take
+pub taking : (w : List ℕ) → watchLength ≤ length w → soundOf (watchIn w) ≡ true → Taking w
+unfolding notedOf
+taking w l s = record {
+  cold-read = λ n u. note-all w l (wordOf (cold n)) ∙ ap (notedOf (watchIn w)) (word-reading (cold n) u) ∙ simp s;
+  distance-read = λ d u. note-all w l (wordOf (at d)) ∙ ap (notedOf (watchIn w)) (word-reading (at d) u) ∙ simp (s, le-leb 1 d (u .0), le-leb d maxExtents (u .1));
+  no-answer = λ d h. note-all w l d ∙ simp (s, untaken d h);
+}
 
 -- words that held a watch hold another
 put-again : (v u : Watch) (w : List ℕ) → putAt (putAt w 0 (watchLaid v)) 0 (watchLaid u) ≡ putAt w 0 (watchLaid u)

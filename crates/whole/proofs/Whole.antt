@@ -23,6 +23,7 @@ use Rattle.whole.proofs.Refusals.{calls-owed, no-trace}
 use Rattle.whole.proofs.Groupings.{session-outcome, grouping-outcome}
 use Rattle.whole.proofs.Plans.{plan-outcome}
 use Rattle.whole.proofs.Prefixes.{cutting-outcome}
+use Rattle.watch_words.proofs.Fed.{taking}
 use Rattle.split_calls.proofs.Refusals.{refusals}
 use Rattle.whole.proofs.Counts.{counts}
 use Rattle.whole.proofs.Splits.{splits}
@@ -76,7 +77,7 @@ runs t w = record {
   counts = λ c. counts c t w;
 }
 
--- demand 3, the numbers of newcomers after any words, and the split of one store
+-- demand 3, the numbers of newcomers after any words, what a watch in words takes, and the split of one store
 pub claim : Claim
 claim = record {
   calls = calls-owed;
@@ -84,6 +85,7 @@ claim = record {
   walks = walks;
   runs = runs;
   prefixes = λ w reads h. record { next = prefix-newcomer w (formed w h) reads; in-order = prefix-numbers w (formed w h) reads };
+  watch-words = taking;
   split-refusals = refusals;
   splits = splits;
 }

@@ -1,5 +1,5 @@
 -- The claim about whole runs (01, 'Demand 3 in full').
-use Prim.Native.Nat.{ℕ}
+use Prim.Native.Nat.{ℕ, _≤_}
 use mathlib.Core.Path.{_≡_}
 use mathlib.Core.List.{List, [], _∷_, _++_, map}
 use mathlib.Core.Bool.{Bool, true, false, cond, _&&_}
@@ -16,6 +16,9 @@ use Rattle.session.specs.declared.Answer.the-variants.{Cold, Distance, Refused}
 use Rattle.session.specs.Sessions.{fresh}
 use Rattle.session_traces.specs.Walks.{Walks}
 use Rattle.session_summary.specs.Summaries.{summaryCall}
+use Rattle.watch.specs.Watching.{soundOf}
+use Rattle.watch_words.specs.Layout.{watchLength, watchIn}
+use Rattle.watch_words.specs.Taking.{Taking}
 use Rattle.texts.specs.Lines.{got}
 use Rattle.texts.specs.Plans.{Plan, reads as planReads}
 use Rattle.texts.specs.PlanTexts.{planOf}
@@ -92,6 +95,8 @@ pub record Claim : Type 0 where
   pub runs : (t : List ℕ) → Within t → Claims t
   -- after any well-formed words, whether or not a log has them, a cold answer's number counts their extents too
   pub prefixes : (words reads : List ℕ) → wellFormed words ≡ true → Newcomers words reads
+  -- a watch in words takes exactly the words of answers within the limit, a cold read's whatever its number: of all words that hold a sound watch
+  pub watch-words : (words : List ℕ) → watchLength ≤ length words → soundOf (watchIn words) ≡ true → Taking words
   -- a split of one store is refused exactly under the conditions of 2, 5, 10 and 6, in this order, and a refusal leaves every word
   pub split-refusals : (store : ℕ) (leasts words shares : List ℕ) → Refusals store leasts words shares
   -- and of logs within the limits it gives each customer its share: fewest misses in the customers' own caches, then the smallest total, then the smallest shares
