@@ -11,7 +11,7 @@ use Rattle.reuse.specs.Written.{wordOf}
 use Rattle.reuse.specs.Summary.{wellFormed, readsOf, firstOf, recentOf}
 use Rattle.summary_calls.specs.Calls.{Wrote, wrote, refused}
 
--- the distances of the reads with R of the prefix as their stack: 5, 8, 9, 6
+-- the answers to the reads, a word each, with R of the prefix as their stack: 5, 8, 9, 6
 unfoldable pub afterCall : List ℕ → List ℕ → List ℕ → Wrote
 afterCall prefix reads buffer =
     cond (wellFormed prefix)

@@ -1,40 +1,23 @@
 -- A trace read after the stack of another: its own distances, and those of its first reads.
 use mathlib.Core.Path.{_≡_, refl, sym, ap, ap₂, _∙_}
-use Prim.Native.Nat.{ℕ, suc, _+_, _≤_}
+use Prim.Native.Nat.{ℕ, suc, _+_}
 use native.Mathlib.Omega.{arith}
 use mathlib.Core.List.{List, [], _∷_, _++_, map, foldl, append-nil, append-assoc, foldl-append}
-use mathlib.Core.Bool.{true, false, cond, _||_, or-true}
+use mathlib.Core.Bool.{true, false, cond, _||_}
 use lib.Dec.{eqb}
 use lib.ListN.{length, length-append, length-reverse}
 use borrow.Author.Tests.{eqb-true}
 use Rattle.reuse.specs.Lists.{mem, firsts, before, distinct, inside, outside, count}
 use Rattle.reuse.specs.Lru.{Reuse, cold, at, depth, touch, stack, reuses, countAt}
-use Rattle.reuse.proofs.Lists.{by-test, clash, eqb-same, mem-append, mem-outside, mem-firsts, outside-same, outside-none, outside-remove, outside-snoc, outside-reverse, firsts-known, firsts-new}
+use Rattle.reuse.proofs.Lists.{by-test, eqb-same, mem-append, mem-outside, mem-firsts, outside-same, outside-none, outside-remove, outside-snoc, outside-reverse, firsts-known, firsts-new}
 use Rattle.reuse.proofs.Distinct.{length-cleanup, distinct-middle, distinct-firsts, firsts-distinct, cleanup-distinct}
-use Rattle.reuse.proofs.Sizes.{fewer}
-use Rattle.reuse.proofs.Stack.{stack-over, stack-law, stack-append, stack-snoc, mem-stack, length-stack, distinct-touch}
-use Rattle.reuse.proofs.Depth.{depth-top, depth-under, depth-absent, depth-present, before-append, before-outside, distinct-before, length-before}
+use Rattle.reuse.proofs.Stack.{stack-over, stack-law, stack-append, stack-snoc, mem-stack, length-stack}
+use Rattle.reuse.proofs.Depth.{depth-top, depth-under, depth-absent, before-append, before-outside, distinct-before}
 use Rattle.reuse.proofs.Counts.{finite, count-cons, count-cold}
 
 -- the stack s after the reads t has the members of both
 pub mem-over : (x : ℕ) (s t : List ℕ) → mem x (foldl touch s t) ≡ mem x t || mem x s
 mem-over x s t = simp (stack-over, mem-append, mem-stack, mem-outside) (by-test (mem x t) (λ e. simp e) (λ e. simp e))
-
--- a stack never shrinks
-pub stack-grows : (s t : List ℕ) → distinct s ≡ true → length s ≤ length (foldl touch s t)
-stack-grows s t d = fewer s (foldl touch s t) d (λ x m. mem-over x s t ∙ simp (m, or-true))
-
--- each distance lies between 1 and the number of extents in the last stack
-pub finite-range : (s t : List ℕ) (d : ℕ) → distinct s ≡ true → mem d (finite (reuses s t)) ≡ true → (1 ≤ d) × (d ≤ length (foldl touch s t))
-unfolding reuses finite mem
-finite-range s [] d u h = clash h refl
-finite-range s (x ∷ t) d u h =
-    by-test (mem x s)
-    (λ m. let k : mem d (suc (length (before x s)) ∷ finite (reuses (touch s x) t)) ≡ true = simp (depth-present x s m) at h in
-    by-test (eqb d (suc (length (before x s))))
-    (λ e. omega (arith, eqb-true d (suc (length (before x s))) e, length-before x s m, stack-grows s (x ∷ t) u))
-    (λ e. finite-range (touch s x) t d (distinct-touch s x u) (simp e at k)))
-    (λ m. finite-range (touch s x) t d (distinct-touch s x u) (simp (depth-absent x s m) at h))
 
 -- the depth, after the reads a, of an extent that is not one of them
 pub depth-new : (x : ℕ) (s a : List ℕ) → mem x a ≡ false
@@ -46,8 +29,8 @@ depth-new x s a h =
     ∙ simp (mem-outside, h, length-stack, before-outside))
 
 -- the different extents of a stack and of the reads after it
-pub both-different : (s a : List ℕ) → distinct s ≡ true → length (firsts (s ++ a)) ≡ length (firsts a) + length (outside a s)
-both-different s a d =
+length-both : (s a : List ℕ) → distinct s ≡ true → length (firsts (s ++ a)) ≡ length (firsts a) + length (outside a s)
+length-both s a d =
     sym (length-stack (s ++ a))
     ∙ simp (stack-append, stack-law, cleanup-distinct s d, outside-reverse, length-append, length-reverse, length-cleanup)
 
@@ -55,7 +38,7 @@ both-different s a d =
 pub depth-across : (x : ℕ) (s a : List ℕ) → distinct s ≡ true → mem x a ≡ false
     → depth (foldl touch s a) x ≡ cond (mem x s) (at (suc (length (firsts (before x s ++ a))))) (cold (suc (length (firsts (s ++ a)))))
 depth-across x s a d h =
-    depth-new x s a h ∙ sym (simp (both-different (before x s) a (distinct-before x s d), both-different s a d))
+    depth-new x s a h ∙ sym (simp (length-both (before x s) a (distinct-before x s d), length-both s a d))
 
 -- the distance of the first read of p, where r is the stack before and f has the first reads
 unfoldable pub acrossOf : List ℕ → List ℕ → ℕ → ℕ

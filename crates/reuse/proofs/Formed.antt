@@ -16,7 +16,8 @@ use Rattle.reuse.proofs.Distinct.{distinct-firsts, length-remove, disti
 use Rattle.reuse.proofs.Sizes.{fewer, same-size, full-distinct, full-same, all-in, in-all, length-split}
 use Rattle.reuse.proofs.Stack.{distinct-from}
 use Rattle.reuse.proofs.Counts.{finite, count-all, sum-add, sum-counts, sum-table, length-from}
-use Rattle.reuse.proofs.Across.{mem-over, finite-range}
+use Rattle.reuse.proofs.Newcomers.{finite-range}
+use Rattle.reuse.proofs.Across.{mem-over}
 use Rattle.reuse.proofs.Words.{reads-words, extents-words, first-words, recent-words, counts-words, length-words, reads-summary, first-length, recent-length, counts-length}
 use Rattle.reuse.proofs.Join.{joined-first, join-law, across-words}
 

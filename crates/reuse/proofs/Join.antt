@@ -12,7 +12,8 @@ use Rattle.reuse.proofs.Lists.{by-test, mem-firsts, firsts-append, insi
 use Rattle.reuse.proofs.Distinct.{distinct-firsts}
 use Rattle.reuse.proofs.Stack.{stack-law, distinct-stack, mem-stack, length-stack, reuses-append, reuses-snoc, recent-append}
 use Rattle.reuse.proofs.Counts.{finite, count-finite, count-append, count-absent, getD-from}
-use Rattle.reuse.proofs.Across.{acrossOf, across-law, split-law, finite-range}
+use Rattle.reuse.proofs.Newcomers.{finite-range}
+use Rattle.reuse.proofs.Across.{acrossOf, across-law, split-law}
 use Rattle.reuse.proofs.Words.{reads-summary, first-summary, recent-summary, counts-summary}
 
 -- each distance of a trace lies between 1 and the number of its different extents

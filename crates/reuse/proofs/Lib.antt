@@ -6,12 +6,13 @@ pub mod Depth
 pub mod Cache
 pub mod Counts
 pub mod Sums
+pub mod Newcomers
 pub mod Across
 pub mod Words
 pub mod Join
 pub mod Monoid
 pub mod Formed
-pub mod Newcomers
+pub mod Prefixes
 pub mod Misses
 pub mod Traces
 pub mod Examples

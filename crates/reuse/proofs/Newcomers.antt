@@ -1,20 +1,19 @@
--- Cold answers: how many there are, and their numbers, one after the other from the extents that were there.
-use mathlib.Core.Path.{_≡_, refl, sym, ap, _∙_}
-use Prim.Native.Nat.{ℕ, suc, _+_, _-_, _≤_}
+-- Cold answers: how many there are, and their numbers, one after the other; and the range of all answers.
+use mathlib.Core.Path.{_≡_, refl, ap, _∙_}
+use Prim.Native.Nat.{ℕ, suc, _+_, _≤_}
 use native.Mathlib.Omega.{arith}
-use mathlib.Core.List.{List, [], _∷_, _++_, foldl}
-use mathlib.Core.Bool.{true, false, or-comm}
+use mathlib.Core.List.{List, [], _∷_, foldl}
+use mathlib.Core.Bool.{true}
+use lib.Dec.{eqb}
 use lib.ListN.{length}
+use borrow.Author.Tests.{eqb-true}
 use Rattle.reuse.specs.Lists.{mem, firsts, distinct, from, count}
 use Rattle.reuse.specs.Lru.{Reuse, cold, at, touch, stack, reuses, newcomers, isCold}
 use Rattle.reuse.specs.Written.{UpTo}
-use Rattle.reuse.specs.Summary.{firstOf, recentOf, extentsOf}
-use Rattle.reuse.proofs.Lists.{by-test, mem-append}
-use Rattle.reuse.proofs.Stack.{reuses-append, length-stack, distinct-touch, length-known, length-new}
+use Rattle.reuse.proofs.Lists.{by-test, clash}
+use Rattle.reuse.proofs.Stack.{length-stack, distinct-touch, length-known, length-new}
 use Rattle.reuse.proofs.Depth.{depth-absent, depth-present, length-before}
-use Rattle.reuse.proofs.Across.{mem-over}
-use Rattle.reuse.proofs.Words.{recent-length}
-use Rattle.reuse.proofs.Formed.{Formed, recent-distinct, recent-first, prefix-stack}
+use Rattle.reuse.proofs.Counts.{finite}
 
 -- the stack is longer by the cold reads
 pub cold-longer : (s t : List ℕ) → distinct s ≡ true → length s + count isCold (reuses s t) ≡ length (foldl touch s t)
@@ -25,6 +24,10 @@ cold-longer s (x ∷ t) d =
     by-test (mem x s)
     (λ m. simp (depth-present x s m) (omega (arith, length-known s x d m)))
     (λ m. simp (depth-absent x s m) (omega (arith, length-new s x m)))
+
+-- so it never shrinks
+pub stack-grows : (s t : List ℕ) → distinct s ≡ true → length s ≤ length (foldl touch s t)
+stack-grows s t d = omega (arith, cold-longer s t d)
 
 -- the cold reads of a trace are as many as its different extents
 pub cold-count : (t : List ℕ) → count isCold (reuses [] t) ≡ length (firsts t)
@@ -58,32 +61,21 @@ answers-up-to n s [] d l = tt
 answers-up-to n s (x ∷ t) d l =
     let i : AllUpTo n (reuses (touch s x) t) = answers-up-to n (touch s x) t (distinct-touch s x d) l in
     by-test (mem x s)
-    (λ m. rw (depth-present x s m) ((omega arith, omega (arith, length-before x s m, length-known s x d m, cold-longer (touch s x) t (distinct-touch s x d))), i))
-    (λ m. rw (depth-absent x s m) ((omega arith, omega (arith, length-new s x m, cold-longer (touch s x) t (distinct-touch s x d))), i))
+    (λ m. rw (depth-present x s m) ((omega arith, omega (arith, length-before x s m, length-known s x d m, stack-grows (touch s x) t (distinct-touch s x d))), i))
+    (λ m. rw (depth-absent x s m) ((omega arith, omega (arith, length-new s x m, stack-grows (touch s x) t (distinct-touch s x d))), i))
 
 -- so those to a trace, by the number of its extents
 pub trace-up-to : (n : ℕ) (t : List ℕ) → length (firsts t) ≤ n → AllUpTo n (reuses [] t)
 unfolding stack distinct
 trace-up-to n t l = answers-up-to n [] t refl (let e : length (stack t) ≡ length (firsts t) = length-stack t in omega arith)
 
--- reads after R of well-formed words
-module _ (w : List ℕ) (f : Formed w) (reads : List ℕ) where
-  -- a read of what neither has is cold, with the number of the extents of both, itself included
-  pub prefix-newcomer : (x : ℕ) → mem x (firstOf w ++ reads) ≡ false
-      → reuses (recentOf w) (reads ++ (x ∷ [])) ≡ reuses (recentOf w) reads ++ (cold (suc (length (firsts (firstOf w ++ reads)))) ∷ [])
-  unfolding reuses
-  prefix-newcomer x h =
-      reuses-append (recentOf w) reads (x ∷ [])
-      ∙ ap (λ (r : Reuse). reuses (recentOf w) reads ++ (r ∷ []))
-      (depth-absent x (foldl touch (recentOf w) reads) absent ∙ ap (λ (n : ℕ). cold (suc n)) (prefix-stack w f reads))
-    where
-      absent : mem x (foldl touch (recentOf w) reads) ≡ false
-      absent = mem-over x (recentOf w) reads ∙ rw (recent-first w f x) (or-comm (mem x reads) (mem x (firstOf w)) ∙ sym (mem-append x (firstOf w) reads) ∙ h)
+-- a distance among such answers is so
+in-range : (n : ℕ) (rs : List Reuse) → AllUpTo n rs → (d : ℕ) → mem d (finite rs) ≡ true → (1 ≤ d) × (d ≤ n)
+unfolding AllUpTo finite mem
+in-range n [] h d m = clash m refl
+in-range n (cold k ∷ rs) h d m = in-range n rs (h .1) d m
+in-range n (at e ∷ rs) h d m = by-test (eqb d e) (λ q. rw (eqb-true d e q) (h .0)) (λ q. in-range n rs (h .1) d (simp q at m))
 
-  -- the numbers go on from the extents of the words, one after the other, to the number of all extents
-  pub prefix-numbers : newcomers (reuses (recentOf w) reads) ≡ from (suc (extentsOf w)) (length (firsts (firstOf w ++ reads)) - extentsOf w)
-  prefix-numbers =
-      let e : length (recentOf w) ≡ extentsOf w = recent-length w (f .long) in
-      let c : count isCold (reuses (recentOf w) reads) ≡ length (firsts (firstOf w ++ reads)) - extentsOf w =
-      omega (arith, e, cold-longer (recentOf w) reads (recent-distinct w f), prefix-stack w f reads) in
-      numbers-follow (recentOf w) reads (recent-distinct w f) ∙ rw (e, c)
+-- each distance lies between 1 and the number of extents in the last stack
+pub finite-range : (s t : List ℕ) (d : ℕ) → distinct s ≡ true → mem d (finite (reuses s t)) ≡ true → (1 ≤ d) × (d ≤ length (foldl touch s t))
+finite-range s t d u h = in-range (length (foldl touch s t)) (reuses s t) (answers-up-to (length (foldl touch s t)) s t u (omega arith)) d h

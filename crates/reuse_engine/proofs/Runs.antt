@@ -13,7 +13,7 @@ use Rattle.reuse.specs.Lists.{mem, distinct}
 use Rattle.reuse.specs.Lru.{at, depth, touch, reuses}
 use Rattle.reuse_engine.specs.Engine.{placeOf, lifted, leftBy}
 use Rattle.reuse.proofs.Stack.{reuses-append, distinct-from, length-new}
-use Rattle.reuse.proofs.Across.{stack-grows}
+use Rattle.reuse.proofs.Newcomers.{stack-grows}
 use Rattle.reuse_engine.proofs.Engine.{place-new, place-full, place-counts, touched-known, touched-new}
 
 -- the first i reads were taken after the stack in the first n words; `held` words of the row are the stack now

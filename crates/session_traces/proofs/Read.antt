@@ -1,13 +1,13 @@
 -- The laws of a read: of a sound session, and of one that has read a trace.
 use Prim.Native.Nat.{ℕ, suc, _+_, _-_, _≤_, _<_}
 use mathlib.Core.Path.{_≡_, refl, sym, ap, _∙_}
-use mathlib.Core.List.{List, [], _∷_, _++_, map}
+use mathlib.Core.List.{List, [], _∷_, _++_}
 use mathlib.Core.Bool.{Bool, true, false, cond, not, _&&_}
 use native.Mathlib.Omega.{arith}
 use lib.Dec.{eqb}
-use lib.ListN.{length, getD, length-append}
+use lib.ListN.{length, length-append}
 use borrow.Author.Tests.{eq-eqb, ne-eqb, eqb-true, eqb-false, not-true}
-use Rattle.reuse.specs.Lists.{mem, firsts, sum}
+use Rattle.reuse.specs.Lists.{mem, firsts}
 use Rattle.reuse.specs.Lru.{Reuse, cold, at, depth, stack}
 use Rattle.reuse.specs.Limits.{maxReads, maxExtents, slotCount, levels}
 use Rattle.session.specs.declared.Session.{Session}

@@ -3,11 +3,11 @@ use mathlib.Core.Path.{_≡_, refl, ap, _∙_}
 use Prim.Native.Nat.{ℕ, _+_, _-_, _≤_, _<_}
 use native.Mathlib.Omega.{arith}
 use mathlib.Core.List.{List, [], _∷_, map}
-use mathlib.Core.Bool.{Bool, true, false, cond}
-use lib.Dec.{eqb, leb, ltb}
+use mathlib.Core.Bool.{true, false}
+use lib.Dec.{leb, ltb}
 use lib.ListN.{length}
 use borrow.Author.Tests.{leb-true, ltb-true, le-leb, lt-ltb}
-use Rattle.reuse.specs.Limits.{maxReads, maxExtents}
+use Rattle.reuse.specs.Limits.{maxExtents}
 use Rattle.reuse.specs.Lru.{Reuse, cold, at}
 use Rattle.reuse.specs.Written.{coldBase, wordOf, UpTo}
 use Rattle.reuse.proofs.Lists.{by-test, both}
@@ -15,11 +15,11 @@ use Rattle.reuse.proofs.Newcomers.{AllUpTo}
 use Rattle.reuse_rows.specs.Rows.{putAt}
 use Rattle.watch.specs.declared.Watch.{Watch}
 use Rattle.watch.specs.declared.Reading.{Reading}
-use Rattle.watch.specs.declared.Reading.the-variants.{Cold, Distance}
 use Rattle.watch.specs.declared.Outcome.{Outcome}
 use Rattle.watch.specs.declared.Outcome.the-variants.{Counted, Refused as NotCounted}
 use Rattle.watch.specs.declared.Change.{Change}
-use Rattle.watch.specs.Watching.{soundOf, countedBy, inRange, takes, counts, notedOf, readingOf, watchAfter}
+use Rattle.watch.specs.Watching.{soundOf, inRange, takes, notedOf, readingOf, watchAfter}
+use Rattle.watch.proofs.Refusals.{unchanged}
 use Rattle.watch_words.specs.Layout.{watchLength, watchIn, watchLaid}
 use Rattle.watch_words.specs.Calls.{isColdWord, readingAt, noteIn, watchLeft, wordsAfter}
 use Rattle.watch_words.specs.Taking.{Taking}
@@ -57,28 +57,6 @@ taking w l s = record {
 put-again : (v u : Watch) (w : List ℕ) → putAt (putAt w 0 (watchLaid v)) 0 (watchLaid u) ≡ putAt w 0 (watchLaid u)
 unfolding putAt watchLaid
 put-again v u w = refl
-
--- a read more changes the watch only where it is counted
-counted-only : (v : Watch) (c h n : ℕ) → countedBy v c h .outcome ≡ NotCounted n → countedBy v c h .watch ≡ v
-unfolding countedBy
-counted-only v c h n e = by (eqb (v .reads) maxReads) refl
-  where
-    by : (b : Bool) → eqb (v .reads) maxReads ≡ b → countedBy v c h .watch ≡ v
-    by true f = simp f
-    by false f = let z : Counted ≡ NotCounted n = simp f at e in cc
-
--- so does a reading that the watch takes
-counts-only : (v : Watch) (q : Reading) (n : ℕ) → counts v q .outcome ≡ NotCounted n → counts v q .watch ≡ v
-counts-only v Cold n e = counted-only v 1 0 n e
-counts-only v (Distance d) n e = counted-only v 0 (cond (leb d (v .size)) 1 0) n e
-
--- and every update
-unchanged : (v : Watch) (q : Reading) (n : ℕ) → notedOf v q .outcome ≡ NotCounted n → notedOf v q .watch ≡ v
-unfolding notedOf
-unchanged v q n e =
-    by-test (soundOf v)
-    (λ s. by-test (takes q) (λ t. simp (s, t) (counts-only v q n (simp (s, t) at e))) (λ t. simp (s, t)))
-    (λ s. simp s)
 
 -- the words after one update
 left-put : (v : Watch) (q : Reading) (w : List ℕ)

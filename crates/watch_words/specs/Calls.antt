@@ -28,15 +28,15 @@ newWatch size w = wrote (watchLaid (newOf size)) w
 
 -- 65,536 plus a number from 1 to the limit of extents
 abbrev pub isColdWord : ℕ → Bool
-isColdWord d = ltb coldBase d && leb d (coldBase + maxExtents)
+isColdWord word = ltb coldBase word && leb word (coldBase + maxExtents)
 
 -- a word as the distance buffer writes it: a cold read, whatever its number, or else a distance
 abbrev pub readingAt : ℕ → Reading
-readingAt d = cond (isColdWord d) ColdReading (DistanceReading d)
+readingAt word = cond (isColdWord word) ColdReading (DistanceReading word)
 
 -- an update of the watch in the first words; too few words are no sound watch
 unfoldable pub noteIn : List ℕ → ℕ → Change
-noteIn w d = cond (leb watchLength (length w)) (notedOf (watchIn w) (readingAt d)) (unnoted (watchIn w) 7)
+noteIn w word = cond (leb watchLength (length w)) (notedOf (watchIn w) (readingAt word)) (unnoted (watchIn w) 7)
 
 -- the words after an update: the watch's at their front; a refusal leaves them as they were
 abbrev pub watchLeft : Outcome → Watch → List ℕ → List ℕ

@@ -9,7 +9,8 @@ use Rattle.reuse.specs.Summary.{summaryOf}
 use Rattle.reuse.specs.Traces.{Within}
 use Rattle.reuse.proofs.Cache.{cache-law}
 use Rattle.reuse.proofs.Formed.{formed}
-use Rattle.reuse.proofs.Newcomers.{trace-numbers, prefix-newcomer, prefix-numbers}
+use Rattle.reuse.proofs.Newcomers.{trace-numbers}
+use Rattle.reuse.proofs.Prefixes.{prefix-newcomer, prefix-numbers}
 use Rattle.session.specs.declared.Answer.{Answer}
 use Rattle.session.specs.declared.Answer.the-variants.{Cold, Distance, Refused}
 use Rattle.session.specs.Sessions.{fresh}

@@ -61,7 +61,7 @@ heldBy c (Refused n) = false
 pub record Claims (t : List ℕ) : Type 0 where
   -- the uncut reading refuses no read
   pub accepts : accepted fresh t ≡ t
-  -- and answers the LRU stack's distances
+  -- and answers what the LRU stack does: distances, and cold reads with their numbers
   pub uncut : map seenOf (answersOf fresh t) ≡ map gives (reuses [] t)
   -- the numbers of its cold answers are 1, 2, and so on to the number of the log's extents
   pub growth : newcomers (reuses [] t) ≡ from 1 (length (firsts t))

@@ -1,9 +1,10 @@
 -- `after::passes::trace` meets its contract. The invariant is `Tracing`.
 use mathlib.Core.Path.{sym, _∙_}
-use Prim.Native.Nat.{_-_}
+use Prim.Native.Nat.{_-_, _≤_}
 use native.Mathlib.Omega.{arith}
 use mathlib.Core.Logic.{⊎-elim}
 use lib.ListN.{length}
+use Rattle.reuse.specs.Limits.{maxExtents}
 use Rattle.after.proofs.Tracing.{Tracing, trace-start, trace-cold, trace-known, trace-end, written-length, held-small, not-full, not-bad, depth-small}
 use borrow.Author.Needs.{needs}
 use Rattle.after.proofs.passes.trace.Statement.{statement}
@@ -30,14 +31,18 @@ touch-requires c κs = tt
 enum-told : tie.Need-enum-told Inv-loop μ-loop
 enum-told c = search needs
 
+-- at a cold read, what was held is within the limit
+small : (c : tie.After-enum-told Inv-loop μ-loop) → c .before .before .before .before .before .before .before .before .loop .held ≤ maxExtents
+small c = held-small _ _ _ _ _ _ _ _ (c .before .before .before .before .before .before .before .before .loop .inv)
+
 add-held : tie.Need-add-held Inv-loop μ-loop
-add-held c = omega (arith, held-small _ _ _ _ _ _ _ _ (c .before .before .before .before .before .before .before .before .loop .inv))
+add-held c = omega (arith, small c)
 
 cast-out : tie.Need-cast-out Inv-loop μ-loop
-cast-out c = record { fits = omega (arith, held-small _ _ _ _ _ _ _ _ (c .before .before .before .before .before .before .before .before .loop .inv)) }
+cast-out c = record { fits = omega (arith, small c) }
 
 add-out : tie.Need-add-out Inv-loop μ-loop
-add-out c = record { fits = omega (arith, held-small _ _ _ _ _ _ _ _ (c .before .before .before .before .before .before .before .before .loop .inv)) }
+add-out c = record { fits = omega (arith, small c) }
 
 mul-out : tie.Need-mul-out Inv-loop μ-loop
 mul-out c = search needs
