@@ -1,6 +1,6 @@
 // A session kept in lent words.
 ghost use mathlib.Core.Path.{_≡_};
-ghost use Rattle.capi_answers.specs.Answers.{counted, missed, shared, shareLeft, told, sumsLeft};
+ghost use Rattle.capi_answers.specs.Answers.{counted, missed, shared, shareLeft, told, sumsLeft, slotsLeft};
 ghost use Rattle.session_words.specs.Calls.{newSession, readIn, sessionLeft, summaryIn, missesIn, shareIn};
 
 // A new session's words at the front of the row: how many.
@@ -12,15 +12,17 @@ pub extern "C" fn jemqolu_session_new(session: &mut [u32]) -> i64
     capi_answers::count(w)
 }
 
-// A read of the extent by the session in the words: its answer as the buffer of distances writes it, and how many sums it looked at.
+// A read of the extent by the session in the words: its answer as the buffer of distances writes it, how many sums it read,
+// and how many slots it looked at.
 #[no_mangle]
-pub extern "C" fn jemqolu_session_read(session: &mut [u32], extent: u32, sums: &mut u32) -> i64
+pub extern "C" fn jemqolu_session_read(session: &mut [u32], extent: u32, sums: &mut u32, slots: &mut u32) -> i64
     ensures is { λ r. ⌜ r ≡ told (readIn (now (session .entry)) extent .answer) ⌝ }
     ensures session { λ r. ⌜ now (session .exit) ≡ sessionLeft (readIn (now (session .entry)) extent .answer) (readIn (now (session .entry)) extent .session) (now (session .entry)) ⌝ }
     ensures sums { λ r. ⌜ now (sums .exit) ≡ sumsLeft (readIn (now (session .entry)) extent .answer) (now (sums .entry)) ⌝ }
+    ensures slots { λ r. ⌜ now (slots .exit) ≡ slotsLeft (readIn (now (session .entry)) extent .answer) (now (slots .entry)) ⌝ }
 {
     let a = session_words::read(session, extent);
-    capi_answers::read(a, sums)
+    capi_answers::read(a, sums, slots)
 }
 
 // The summary of the session in the words, at the front of `out`: how many words.

@@ -46,15 +46,21 @@ shareLeft (NoShare n) was = was
 
 -- a read's answer as the buffer of distances writes it, or the refusal
 abbrev pub told : Answer → ℤ
-told (Cold n) = pos (wordOf (cold n))
-told (Distance d n) = pos (wordOf (at d))
+told (Cold n k) = pos (wordOf (cold n))
+told (Distance d n k) = pos (wordOf (at d))
 told (NoRead n) = negative n
 
 -- what stands in the place of the sums read: their number, 0 for a cold read; a refusal leaves what stood there
 abbrev pub sumsLeft : Answer → ℕ → ℕ
-sumsLeft (Cold n) was = 0
-sumsLeft (Distance d n) was = n
+sumsLeft (Cold n k) was = 0
+sumsLeft (Distance d n k) was = n
 sumsLeft (NoRead n) was = was
+
+-- what stands in the place of the slots looked at: their number, of a cold read too; a refusal leaves what stood there
+abbrev pub slotsLeft : Answer → ℕ → ℕ
+slotsLeft (Cold n k) was = k
+slotsLeft (Distance d n k) was = k
+slotsLeft (NoRead n) was = was
 
 -- 0 for a read that was counted, or the refusal
 abbrev pub noted : Outcome → ℤ

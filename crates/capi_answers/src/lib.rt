@@ -9,7 +9,7 @@ use watch::Outcome;
 ghost use mathlib.Core.Path.{_≡_};
 ghost use Prim.Native.Nat.{min};
 ghost use lib.IntN.{pos};
-ghost use Rattle.capi_answers.specs.Answers.{negative, mostSigned, countedMost, missed, shared, shareLeft, told, sumsLeft, noted, missedInAll};
+ghost use Rattle.capi_answers.specs.Answers.{negative, mostSigned, countedMost, missed, shared, shareLeft, told, sumsLeft, slotsLeft, noted, missedInAll};
 
 // The largest signed number.
 const MOST: usize = 9223372036854775807;
@@ -67,20 +67,27 @@ pub fn share(s: ShareAnswer, place: &mut f64) -> i64
     }
 }
 
-// A read's answer as the buffer of distances writes it, or the refusal; the sums read are left in their place.
-pub fn read(a: Answer, sums: &mut u32) -> i64
-    ensures { λ r. ⌜ (r ≡ told a) × (now (sums .exit) ≡ sumsLeft a (now (sums .entry))) ⌝ }
+// A read's answer as the buffer of distances writes it, or the refusal; the sums read and the slots looked at are left in
+// their places.
+pub fn read(a: Answer, sums: &mut u32, slots: &mut u32) -> i64
+    ensures { λ r. ⌜ (r ≡ told a) × (now (sums .exit) ≡ sumsLeft a (now (sums .entry))) × (now (slots .exit) ≡ slotsLeft a (now (slots .entry))) ⌝ }
 {
     match a {
-        Answer::Cold { number } => {
+        Answer::Cold {
+            number,
+            slots_looked,
+        } => {
             *sums = 0;
+            *slots = slots_looked;
             (reuse::COLD_BASE as u64 + number as u64) as i64
         }
         Answer::Distance {
             distance,
             sums_read,
+            slots_looked,
         } => {
             *sums = sums_read;
+            *slots = slots_looked;
             distance as i64
         }
         Answer::Refused(n) => refusal(n),

@@ -4,7 +4,7 @@ use Prim.Native.Nat.{ℕ, zero, suc, _+_, _-_, _≤_, _<_}
 use native.Mathlib.Omega.{arith}
 use native.Mathlib.Nat.{zero-add, suc-add, add-zero, add-suc}
 use mathlib.Core.Logic.{_≢_}
-use mathlib.Core.List.{List, [], _∷_, _++_, map}
+use mathlib.Core.List.{List, [], _∷_, _++_, map, map-append}
 use mathlib.Core.Bool.{Bool, true, false, cond, not}
 use lib.Dec.{eqb, ltb}
 use lib.ListN.{length, take, drop, getD}
@@ -99,6 +99,14 @@ unfolding from
 length-from k zero = refl
 length-from k (suc n) = ap suc (length-from (suc k) n)
 
+-- one longer
+pub from-snoc : (k n : ℕ) → from k (suc n) ≡ from k n ++ ((k + n) ∷ [])
+unfolding from
+from-snoc k zero = ap (λ (x : ℕ). x ∷ []) (let e : k ≡ k + 0 = omega arith in e)
+from-snoc k (suc n) =
+    ap {B = List ℕ} (λ r. k ∷ r)
+    (from-snoc (suc k) n ∙ ap (λ (x : ℕ). from (suc k) n ++ (x ∷ [])) (let e : suc k + n ≡ k + suc n = omega arith in e))
+
 -- a table moved by one
 pub from-suc : (f : ℕ → ℕ) (k n : ℕ) → map f (from (suc k) n) ≡ map (λ d. f (suc d)) (from k n)
 unfolding from
@@ -116,11 +124,7 @@ module _ (f : ℕ → ℕ) where
 
   -- one longer
   pub map-from-snoc : (k n : ℕ) → map f (from k (suc n)) ≡ map f (from k n) ++ (f (k + n) ∷ [])
-  unfolding from
-  map-from-snoc k zero = ap (λ (x : ℕ). x ∷ []) (ap f (let e : k ≡ k + 0 = omega arith in e))
-  map-from-snoc k (suc n) =
-      ap {B = List ℕ} (λ r. f k ∷ r)
-      (map-from-snoc (suc k) n ∙ ap {B = List ℕ} (λ r. map f (from (suc k) n) ++ r) (ap (λ (x : ℕ). x ∷ []) (ap f (let e : suc k + n ≡ k + suc n = omega arith in e))))
+  map-from-snoc k n = ap (map f) (from-snoc k n) ∙ map-append f (from k n) ((k + n) ∷ [])
 
 -- a table without its first c
 pub drop-from : (f : ℕ → ℕ) (c k n : ℕ) → drop c (map f (from k n)) ≡ map f (from (k + c) (n - c))

@@ -1,3 +1,4 @@
 pub mod Sound
 pub mod Taken
+pub mod Looked
 pub mod Ways

@@ -27,7 +27,7 @@ reverse-snoc l x = reverse-append l (x ∷ [])
 -- gathering
 module _ (s : Session) (k : Kept s) where
   -- the marks of a gathered session
-  gathered-marks : marks (gathered s) ≡ replicate (extents s) 1 ++ replicate (slotCount - extents s) 0
+  pub gathered-marks : marks (gathered s) ≡ replicate (extents s) 1 ++ replicate (slotCount - extents s) 0
   unfolding gathered extents
   gathered-marks =
       marks-of (gathered s) (replicate (extents s) 1 ++ replicate (slotCount - extents s) 0) refl
@@ -116,7 +116,7 @@ module _ (s : Session) (k : Kept s) (x : ℕ) where
 -- a read by a session with room
 module _ (s : Session) (k : Kept s) (x : ℕ) (room : s .next < slotCount) where
   -- the marks after a first read
-  entered-marks : marks (entered s x) ≡ set (marks s) (s .next) 1
+  pub entered-marks : marks (entered s x) ≡ set (marks s) (s .next) 1
   unfolding entered
   entered-marks = marks-of (entered s x) (set (marks s) (s .next) 1) refl (length-set (marks s) (s .next) 1 ∙ k .rows .wide)
 
@@ -152,7 +152,7 @@ module _ (s : Session) (k : Kept s) (x : ℕ) (room : s .next < slotCount) where
 
   module _ (old : mem x (stackOf s) ≡ true) (n : ℕ) where
     -- the marks after a read of a known extent
-    moved-marks : marks (moved s x (suc n)) ≡ set (set (marks s) (slotOf s x) 0) (s .next) 1
+    pub moved-marks : marks (moved s x (suc n)) ≡ set (set (marks s) (slotOf s x) 0) (s .next) 1
     unfolding moved
     moved-marks =
         marks-of (moved s x (suc n)) (set (set (marks s) (slotOf s x) 0) (s .next) 1) refl

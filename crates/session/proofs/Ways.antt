@@ -4,15 +4,15 @@ use mathlib.Core.Path.{_≡_, refl, sym, ap, _∙_}
 use mathlib.Core.Bool.{true, false}
 use native.Mathlib.Omega.{arith}
 use lib.Dec.{eqb}
-use lib.ListN.{drop, getD}
+use lib.ListN.{length, drop, getD}
 use borrow.Author.Tests.{ne-eqb, eqb-false}
 use Rattle.reuse.specs.Lists.{mem, sum}
 use Rattle.reuse.specs.Lru.{cold, at}
 use Rattle.reuse.specs.Limits.{maxReads, maxExtents, slotCount}
 use Rattle.session.specs.declared.Session.{Session}
 use Rattle.session.specs.Sessions.{marks, extents, stackOf, sound}
-use Rattle.session.specs.Reads.{slotOf, stepAt, taken, refused, tooMany, readOf}
-use Rattle.session_marks.specs.Marks.{foundSlot, Searched}
+use Rattle.session.specs.Reads.{slotOf, lookedAt, stepAt, taken, refused, tooMany, readOf}
+use Rattle.session_marks.specs.declared.Found.{Found}
 use Rattle.session_soundness.specs.Soundness.{Wide, intactRows}
 use Rattle.session_refusals.specs.Refusals.{overfull, refusalOf}
 use Rattle.session.specs.Steps.{Movable, Enterable, Gatherable}
@@ -20,29 +20,12 @@ use Rattle.reuse.proofs.Lists.{by-test}
 use Rattle.reuse.proofs.Depth.{depth-absent}
 use Rattle.reuse.proofs.Sums.{at-le-sum, sum-drop, sum-drop-le}
 use Rattle.session_marks.proofs.Marks.{row-tidy, slot-absent, slot-marked}
-use Rattle.session_marks.proofs.Search.{found-slot}
 use Rattle.session_soundness.proofs.Sound.{intact-wide}
 use Rattle.session.proofs.Sound.{Kept, true-sound, rows-of, length-stack, kept-wide, kept-trued, kept-few}
 use Rattle.session.proofs.Taken.{Roomed, stack-mem, slot-below, slot-depth}
+use Rattle.session.proofs.Looked.{searchOf, count-old, count-absent}
 
 module _ (s : Session) (k : Kept s) where
-  -- what a search relies on
-  searched : Searched (s .slots) (s .sums) (s .next)
-  unfolding marks
-  searched = record {
-    slots-wide = kept-wide s k .slots-wide;
-    sums-wide = kept-wide s k .sums-wide;
-    low = k .rows .low;
-    free = k .rows .free;
-    neat = row-tidy (k .rows .row);
-    apart = k .rows .apart;
-  }
-
-  -- so a search finds the slot
-  pub found : (x : ℕ) → foundSlot (s .slots) (s .sums) (s .next) x ≡ slotOf s x
-  unfolding slotOf marks
-  found x = found-slot (s .slots) (s .sums) (s .next) x searched
-
   -- what gathering relies on
   pub gatherable : Gatherable s
   gatherable = record { slots-wide = kept-wide s k .slots-wide; trued = kept-trued s k; neat = row-tidy (k .rows .row) }
@@ -62,9 +45,10 @@ module _ (s : Session) (k : Kept s) where
     is-held n = by-test (mem x (stackOf s)) (λ t. t) (λ f. absurd (n (no-slot f)))
 
     -- its mark can move
-    movable : s .next < slotCount → s .reads < maxReads → mem x (stackOf s) ≡ true → Movable s x (slotOf s x)
+    movable : s .next < slotCount → s .reads < maxReads → mem x (stackOf s) ≡ true → Movable s x (slotOf s x) (length (lookedAt s x))
     movable room short t = record {
       here = refl;
+      seen = count-old s k x t;
       below = slot-below s k x t;
       room = room;
       trued = kept-trued s k;
@@ -125,8 +109,12 @@ module _ (s : Session) (w : Wide (s .first) (s .hist) (s .slots) (s .sums)) (x :
       (λ m. record { ok = ok; short = eqb-false (s .reads) maxReads r; few = m })))
       (λ bad. let z : _≡_ {A = ℕ} 7 0 = simp (tested s w, bad) at e in absurd (omega arith))
 
-  -- σ is s with room, and k is the slot of x in it
-  module _ (a : Accepted s x) (σ : Session) (k : ℕ) (m : Roomed s σ) (at-k : k ≡ slotOf σ x) where
+  -- σ is s with room, and f is what the search for x comes to in it
+  module _ (a : Accepted s x) (σ : Session) (f : Found) (m : Roomed s σ) (is : f ≡ searchOf σ x) where
+    -- the slot of x
+    at-slot : f .slot ≡ slotOf σ x
+    at-slot = ap (λ (g : Found). g .slot) is
+
     -- the reads are within the limit
     left : σ .reads < maxReads
     left = omega (arith, m .reads, true-sound s w (a .ok) .short, a .short)
@@ -137,32 +125,34 @@ module _ (s : Session) (w : Wide (s .first) (s .hist) (s .slots) (s .sums)) (x :
     taken-is = rw (a .ok, ne-eqb (s .reads) maxReads (a .short), a .few, m .is)
 
     -- the mark of a known extent can move
-    pub moves : (k ≡ slotCount → ⊥) → Movable σ x k
-    moves h = rw at-k (movable σ (m .kept) x (m .room) left (is-held σ (m .kept) x (λ e. h (at-k ∙ e))))
+    pub moves : (f .slot ≡ slotCount → ⊥) → Movable σ x (f .slot) (f .looked)
+    moves h = rw is (movable σ (m .kept) x (m .room) left (is-held σ (m .kept) x (λ e. h (at-slot ∙ e))))
 
     -- a read of a known extent
-    pub known-way : (k ≡ slotCount → ⊥) → stepAt σ x (at (suc (sum (drop (suc k) (marks σ))))) ≡ readOf s x
+    pub known-way : (f .slot ≡ slotCount → ⊥) → stepAt σ x (at (suc (sum (drop (suc (f .slot)) (marks σ))))) ≡ readOf s x
     known-way h =
         let old : taken σ x ≡ stepAt σ x (at (suc (sum (drop (suc (slotOf σ x)) (marks σ))))) =
-        unfold taken in rw (slot-depth σ (m .kept) x (is-held σ (m .kept) x (λ e. h (at-k ∙ e)))) in
-        rw at-k (sym old ∙ taken-is)
+        unfold taken in rw (slot-depth σ (m .kept) x (is-held σ (m .kept) x (λ e. h (at-slot ∙ e)))) in
+        rw at-slot (sym old ∙ taken-is)
 
     -- a new extent can have a mark
-    pub enters : k ≡ slotCount → Enterable σ
+    pub enters : f .slot ≡ slotCount → Enterable σ (f .looked)
     unfolding tooMany
     enters e =
-        let new : mem x (stackOf s) ≡ false = ap (mem x) (sym (m .stacked)) ∙ not-held σ (m .kept) x (sym at-k ∙ e) in
-        let f : eqb (extents s) maxExtents ≡ false = simp new at (a .few) in
+        let absent : mem x (stackOf σ) ≡ false = not-held σ (m .kept) x (sym at-slot ∙ e) in
+        let new : mem x (stackOf s) ≡ false = ap (mem x) (sym (m .stacked)) ∙ absent in
+        let below : eqb (extents s) maxExtents ≡ false = simp new at (a .few) in
         record {
+          seen = ap (λ (g : Found). g .looked) is ∙ count-absent σ (m .kept) x absent;
           room = m .room;
           trued = kept-trued σ (m .kept);
-          few = omega (arith, m .counted, kept-few s (rows-of s w (a .ok)), eqb-false (extents s) maxExtents f);
+          few = omega (arith, m .counted, kept-few s (rows-of s w (a .ok)), eqb-false (extents s) maxExtents below);
           short = left;
         }
 
     -- a read of a new extent
-    pub cold-way : k ≡ slotCount → stepAt σ x (cold (suc (extents σ))) ≡ readOf s x
+    pub cold-way : f .slot ≡ slotCount → stepAt σ x (cold (suc (extents σ))) ≡ readOf s x
     cold-way e =
         let new : taken σ x ≡ stepAt σ x (cold (suc (extents σ))) =
-        unfold taken in ap (stepAt σ x) (depth-absent x (stackOf σ) (not-held σ (m .kept) x (sym at-k ∙ e)) ∙ ap (λ (n : ℕ). cold (suc n)) (length-stack σ (m .kept))) in
+        unfold taken in ap (stepAt σ x) (depth-absent x (stackOf σ) (not-held σ (m .kept) x (sym at-slot ∙ e)) ∙ ap (λ (n : ℕ). cold (suc n)) (length-stack σ (m .kept))) in
         sym new ∙ taken-is

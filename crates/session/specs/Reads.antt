@@ -1,6 +1,6 @@
 -- What a read answers, and the session after it, on every session.
 use Prim.Native.Nat.{ℕ, suc, _-_}
-use mathlib.Core.List.{_++_}
+use mathlib.Core.List.{List, _++_}
 use mathlib.Core.Bool.{Bool, cond, not, _&&_}
 use lib.Dec.{eqb}
 use lib.ListN.{getD, set, replicate}
@@ -12,7 +12,7 @@ use Rattle.session.specs.declared.Step.{Step}
 use Rattle.session.specs.declared.Answer.{Answer}
 use Rattle.session.specs.declared.Answer.the-variants.{Cold, Distance, Refused}
 use Rattle.session_sums.specs.Sums.{sumsOf, zeros}
-use Rattle.session_marks.specs.Marks.{marked, slotFrom}
+use Rattle.session_marks.specs.Marks.{marked, slotFrom, lookedBelow}
 use Rattle.session.specs.Sessions.{marks, extents, stackOf, sound}
 
 -- the marks moved, in order, to the slots 0 to v - 1; next is v
@@ -34,6 +34,10 @@ roomed s = cond (eqb (s .next) slotCount) (gathered s) s
 -- the slot of the mark of x
 unfoldable pub slotOf : Session → ℕ → ℕ
 slotOf s x = slotFrom (marks s) (s .slots) x
+
+-- the slots that the search for x looks at, one by one: from the one below next down to the mark of x, or else to slot 0
+unfoldable pub lookedAt : Session → ℕ → List ℕ
+lookedAt s x = lookedBelow (s .slots) (s .sums) x (s .next)
 
 -- x again, at distance d: its mark moves to next
 unfoldable pub moved : Session → ℕ → ℕ → Session
@@ -59,10 +63,11 @@ entered s x =
       next = suc (s .next);
     }
 
--- a read that is accepted, by the place of x in the LRU stack; the sums read are the zeros of its slot's number
+-- a read that is accepted, by the place of x in the LRU stack: the sums read are the zeros of its slot's number, the slots
+-- looked at are those from the one below next down to its slot, or all below next
 abbrev pub stepAt : Session → ℕ → Reuse → Step
-stepAt s x (cold n) = record { session = entered s x; answer = Cold n }
-stepAt s x (at d) = record { session = moved s x d; answer = Distance d (zeros levels (slotOf s x)) }
+stepAt s x (cold n) = record { session = entered s x; answer = Cold n (s .next) }
+stepAt s x (at d) = record { session = moved s x d; answer = Distance d (zeros levels (slotOf s x)) (s .next - slotOf s x) }
 
 -- a read that is accepted by a session with room
 unfoldable pub taken : Session → ℕ → Step
@@ -87,6 +92,12 @@ readOf s x =
 
 -- the sums that an answer has read: a cold read and a refusal read none
 abbrev pub sumsRead : Answer → ℕ
-sumsRead (Cold n) = 0
-sumsRead (Distance d n) = n
+sumsRead (Cold n k) = 0
+sumsRead (Distance d n k) = n
 sumsRead (Refused n) = 0
+
+-- the slots that an answer tells were looked at: a refusal tells of none
+abbrev pub slotsLooked : Answer → ℕ
+slotsLooked (Cold n k) = k
+slotsLooked (Distance d n k) = k
+slotsLooked (Refused n) = 0

@@ -1,5 +1,5 @@
 -- What the private parts of a call rely on: each is shown from the call's own test of soundness.
-use Prim.Native.Nat.{ℕ, suc, _≤_, _<_}
+use Prim.Native.Nat.{ℕ, suc, _-_, _≤_, _<_}
 use mathlib.Core.Path.{_≡_}
 use mathlib.Core.Bool.{true}
 use lib.ListN.{length, drop, getD}
@@ -11,9 +11,10 @@ use Rattle.session.specs.declared.Session.{Session}
 use Rattle.session.specs.Sessions.{marks, extents}
 use Rattle.session.specs.Reads.{slotOf}
 
--- the mark of x stands in slot k and can move to next
-pub record Movable (s : Session) (x k : ℕ) : Type 0 where
+-- the mark of x stands in slot k, after so many slots looked at, and can move to next
+pub record Movable (s : Session) (x k looked : ℕ) : Type 0 where
   pub here : k ≡ slotOf s x
+  pub seen : looked ≡ s .next - k
   pub below : k < s .next
   pub room : s .next < slotCount
   pub trued : Trued levels slotCount (s .sums)
@@ -21,8 +22,9 @@ pub record Movable (s : Session) (x k : ℕ) : Type 0 where
   pub counted : getD (s .hist) (sum (drop (suc k) (marks s))) 0 ≤ maxReads
   pub short : s .reads < maxReads
 
--- a new extent can have a mark at next
-pub record Enterable (s : Session) : Type 0 where
+-- a new extent, after so many slots looked at, can have a mark at next
+pub record Enterable (s : Session) (looked : ℕ) : Type 0 where
+  pub seen : looked ≡ s .next
   pub room : s .next < slotCount
   pub trued : Trued levels slotCount (s .sums)
   pub few : extents s < maxExtents

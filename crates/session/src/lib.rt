@@ -24,10 +24,11 @@ pub struct Session {
     pub next: u32,
 }
 
-// A read's answer: cold with the number of different extents read, itself included; its distance with the number of sums read; or the refusal's number.
+// A read's answer: cold with the number of different extents read, itself included; its distance with the number of sums
+// read; both with the number of slots looked at; or the refusal's number.
 pub enum Answer {
-    Cold { number: u32 },
-    Distance { distance: u32, sums_read: u32 },
+    Cold { number: u32, slots_looked: u32 },
+    Distance { distance: u32, sums_read: u32, slots_looked: u32 },
     Refused(u32),
 }
 
@@ -82,9 +83,9 @@ impl Session {
         self
     }
 
-    // A read of the extent x, whose mark is in slot k.
-    fn moved(mut self, x: u32, k: usize) -> Step
-        requires { ⌜ Movable self x k ⌝ }
+    // A read of the extent x, whose mark is in slot k, after so many slots looked at.
+    fn moved(mut self, x: u32, k: usize, looked: u32) -> Step
+        requires { ⌜ Movable self x k looked ⌝ }
         ensures { λ r. ⌜ r ≡ stepAt self x (at (suc (sum (drop (suc k) (marks self))))) ⌝ }
     {
         let w = session_sums::above(&self.sums, k);
@@ -102,13 +103,14 @@ impl Session {
             answer: Answer::Distance {
                 distance: t as u32 + 1,
                 sums_read: w.count,
+                slots_looked: looked,
             },
         }
     }
 
-    // A first read of the extent x.
-    fn entered(mut self, x: u32) -> Step
-        requires { ⌜ Enterable self ⌝ }
+    // A first read of the extent x, after so many slots looked at.
+    fn entered(mut self, x: u32, looked: u32) -> Step
+        requires { ⌜ Enterable self looked ⌝ }
         ensures { λ r. ⌜ r ≡ stepAt self x (cold (suc (extents self))) ⌝ }
     {
         let v = self.sums[ROOT];
@@ -120,7 +122,10 @@ impl Session {
         self.reads = self.reads + 1;
         Step {
             session: self,
-            answer: Answer::Cold { number: v + 1 },
+            answer: Answer::Cold {
+                number: v + 1,
+                slots_looked: looked,
+            },
         }
     }
 
@@ -134,7 +139,8 @@ impl Session {
         }
     }
 
-    // A read of the extent: its number where it is cold, or its reuse distance and the sums read, or the refusal; and the session after it.
+    // A read of the extent: its number where it is cold, or its reuse distance and the sums read, and the slots looked at; or
+    // the refusal; and the session after it.
     pub fn read(mut self, extent: u32) -> Step
         ensures { λ r. ⌜ r ≡ readOf self extent ⌝ }
     {
@@ -156,10 +162,10 @@ impl Session {
             self = self.gathered();
         }
         let below = self.next as usize;
-        let k = session_marks::find(&self.slots, &self.sums, below, extent);
-        if k == SLOTS {
-            return self.entered(extent);
+        let f = session_marks::find(&self.slots, &self.sums, below, extent);
+        if f.slot == SLOTS {
+            return self.entered(extent, f.looked);
         }
-        self.moved(extent, k)
+        self.moved(extent, f.slot, f.looked)
     }
 }

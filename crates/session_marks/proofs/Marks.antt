@@ -130,7 +130,7 @@ gather-marked [] (suc k) = gather-marked [] k
 gather-marked (x ∷ l) k = ap {B = List ℕ} (λ r. x ∷ r) (gather-marked l k)
 
 -- a marked slot holds one of the marked extents
-mem-marked : {ms xs : List ℕ} → Row ms xs → (i x : ℕ) → getD ms i 0 ≡ 1 → getD xs i 0 ≡ x → mem x (marked ms xs) ≡ true
+pub mem-marked : {ms xs : List ℕ} → Row ms xs → (i x : ℕ) → getD ms i 0 ≡ 1 → getD xs i 0 ≡ x → mem x (marked ms xs) ≡ true
 unfolding marked
 mem-marked none i x m e = absurd (omega arith)
 mem-marked (bare r) zero x m e = absurd (omega arith)
@@ -167,6 +167,13 @@ unfolding slotFrom marked mem
 slot-marked none x h = clash h refl
 slot-marked (bare r) x h = slot-marked r x h
 slot-marked (kept y r) x h = by-test (eqb x y) (λ e. simp e) (λ e. simp e (slot-marked r x (simp e at h)))
+
+-- and holds it
+pub slot-holds : {ms xs : List ℕ} → Row ms xs → (x : ℕ) → mem x (marked ms xs) ≡ true → getD xs (slotFrom ms xs x) 0 ≡ x
+unfolding slotFrom marked mem
+slot-holds none x h = clash h refl
+slot-holds (bare r) x h = slot-holds r x h
+slot-holds (kept y r) x h = by-test (eqb x y) (λ e. simp e (sym (eqb-true x y e))) (λ e. simp e (slot-holds r x (simp e at h)))
 
 -- the depth of x is one more than the marks behind its slot
 pub depth-slot : {ms xs : List ℕ} → Row ms xs → (x : ℕ) → distinct (marked ms xs) ≡ true → mem x (marked ms xs) ≡ true

@@ -1,9 +1,10 @@
 -- A search from the newest slot down finds the slot of an extent.
 use mathlib.Core.Path.{_≡_, refl, sym, ap, _∙_}
 use mathlib.Core.List.{List}
-use mathlib.Core.Bool.{true, false, cond, _&&_, and-false}
-use Prim.Native.Nat.{ℕ, zero, suc, _-_, _≤_, _<_}
+use mathlib.Core.Bool.{true, false, cond, and-false}
+use Prim.Native.Nat.{ℕ, zero, suc, _+_, _-_, _≤_, _<_}
 use native.Mathlib.Omega.{arith}
+use native.Mathlib.Nat.{zero-add}
 use native.Mathlib.Decide.{ℕ-discrete}
 use lib.Dec.{eqb}
 use lib.ListN.{length, getD}
@@ -11,7 +12,8 @@ use lib.Seq.{getD-take, length-take-le}
 use borrow.Author.Tests.{eq-eqb, ne-eqb, eqb-true, le-leb, lt-leb}
 use Rattle.reuse.specs.Limits.{slotCount, sumCount}
 use Rattle.session_sums.specs.Sums.{marksIn}
-use Rattle.session_marks.specs.Marks.{slotFrom, paired, lastBelow, foundSlot, Searched}
+use Rattle.session_marks.specs.declared.Found.{Found}
+use Rattle.session_marks.specs.Marks.{slotFrom, paired, holds, lastBelow, lookedBelow, foundIn, Searched}
 use Rattle.reuse.proofs.Lists.{clash, by-test, both}
 use Rattle.reuse.proofs.Sums.{free-at}
 use Rattle.session_marks.proofs.Marks.{Row, tidy-row, slot-found, slot-none}
@@ -28,46 +30,64 @@ pair-wide xs ms h =
     let p = both (eqb (length xs) slotCount) (eqb (length ms) sumCount) h in
     (eqb-true (length xs) slotCount (p .0), eqb-true (length ms) sumCount (p .1))
 
-module _ (xs ms : List ℕ) (x : ℕ) where
-  -- the search by the slot below i
-  last-step : (i : ℕ) → 0 < i → lastBelow xs ms x i ≡ cond (eqb (getD xs (i - 1) 0) x && eqb (getD ms (i - 1) 0) 1) (i - 1) (lastBelow xs ms x (i - 1))
-  unfolding lastBelow
-  last-step zero l = absurd (omega arith)
-  last-step (suc j) l = let b : suc j - 1 ≡ j = omega arith in rw b
+-- what a search comes to that has looked at n slots and goes on below i
+abbrev pub goingOn : List ℕ → List ℕ → ℕ → ℕ → ℕ → Found
+goingOn xs ms x i n = record { slot = lastBelow xs ms x i; looked = n + length (lookedBelow xs ms x i) }
 
-  module _ (i : ℕ) (l : 0 < i) where
+-- nothing found, after so many slots
+abbrev pub nothing : ℕ → Found
+nothing n = record { slot = slotCount; looked = n }
+
+module _ (xs ms : List ℕ) (x : ℕ) where
+  module _ (i n : ℕ) (l : 0 < i) where
+    -- the slot below i holds x, or the search goes on below it
+    step : goingOn xs ms x i n ≡ cond (holds xs ms x (i - 1)) (record { slot = i - 1; looked = n + 1 }) (goingOn xs ms x (i - 1) (n + 1))
+    unfolding lastBelow lookedBelow
+    step = by i refl
+      where
+        by : (j : ℕ) → j ≡ i → goingOn xs ms x j n ≡ cond (holds xs ms x (j - 1)) (record { slot = j - 1; looked = n + 1 }) (goingOn xs ms x (j - 1) (n + 1))
+        by zero e = absurd (omega arith)
+        by (suc j) e =
+            let b : suc j - 1 ≡ j = omega arith in
+            let m : n + suc (length (lookedBelow xs ms x j)) ≡ n + 1 + length (lookedBelow xs ms x j) = omega arith in
+            rw b (by-test (holds xs ms x j) (λ t. simp t) (λ f. simp (f, m)))
+
     -- it is the one
-    pub last-hit : getD xs (i - 1) 0 ≡ x → getD ms (i - 1) 0 ≡ 1 → lastBelow xs ms x i ≡ i - 1
-    last-hit e m = last-step i l ∙ simp (eq-eqb (getD xs (i - 1) 0) x e, eq-eqb (getD ms (i - 1) 0) 1 m)
+    pub search-hit : getD xs (i - 1) 0 ≡ x → getD ms (i - 1) 0 ≡ 1 → goingOn xs ms x i n ≡ record { slot = i - 1; looked = n + 1 }
+    search-hit e m = step ∙ simp (eq-eqb (getD xs (i - 1) 0) x e, eq-eqb (getD ms (i - 1) 0) 1 m)
 
     -- it holds another extent
-    pub last-other : (getD xs (i - 1) 0 ≡ x → ⊥) → lastBelow xs ms x i ≡ lastBelow xs ms x (i - 1)
-    last-other e = last-step i l ∙ simp (ne-eqb (getD xs (i - 1) 0) x e)
+    pub search-other : (getD xs (i - 1) 0 ≡ x → ⊥) → goingOn xs ms x i n ≡ goingOn xs ms x (i - 1) (n + 1)
+    search-other e = step ∙ simp (ne-eqb (getD xs (i - 1) 0) x e)
 
     -- it is not marked
-    pub last-bare : (getD ms (i - 1) 0 ≡ 1 → ⊥) → lastBelow xs ms x i ≡ lastBelow xs ms x (i - 1)
-    last-bare m = last-step i l ∙ simp (ne-eqb (getD ms (i - 1) 0) 1 m, and-false)
+    pub search-bare : (getD ms (i - 1) 0 ≡ 1 → ⊥) → goingOn xs ms x i n ≡ goingOn xs ms x (i - 1) (n + 1)
+    search-bare m = step ∙ simp (ne-eqb (getD ms (i - 1) 0) 1 m, and-false)
 
   -- below the first slot there is none
-  pub last-none : (i : ℕ) → i ≤ 0 → lastBelow xs ms x i ≡ slotCount
-  unfolding lastBelow
-  last-none zero l = refl
-  last-none (suc j) l = absurd (omega arith)
+  pub search-none : (i n : ℕ) → i ≤ 0 → goingOn xs ms x i n ≡ nothing n
+  unfolding lastBelow lookedBelow
+  search-none zero n l = let e : n + 0 ≡ n = omega arith in rw e
+  search-none (suc j) n l = absurd (omega arith)
 
 module _ (xs ms : List ℕ) (next x : ℕ) where
   -- in a session's rows
-  pub found-pair : paired xs ms ≡ true → next ≤ slotCount → foundSlot xs ms next x ≡ lastBelow xs ms x next
-  unfolding foundSlot
-  found-pair h l = simp (h, le-leb next slotCount l)
+  found-walk : paired xs ms ≡ true → next ≤ slotCount → foundIn xs ms next x ≡ record { slot = lastBelow xs ms x next; looked = length (lookedBelow xs ms x next) }
+  unfolding foundIn
+  found-walk h l = simp (h, le-leb next slotCount l)
+
+  -- the search goes on from there, with no slot looked at
+  pub found-pair : paired xs ms ≡ true → next ≤ slotCount → foundIn xs ms next x ≡ goingOn xs ms x next 0
+  found-pair h l = found-walk h l ∙ ap (λ (n : ℕ). record { slot = lastBelow xs ms x next; looked = n }) (sym (zero-add (length (lookedBelow xs ms x next))))
 
   -- in other rows
-  pub found-other : paired xs ms ≡ false → foundSlot xs ms next x ≡ slotCount
-  unfolding foundSlot
+  pub found-other : paired xs ms ≡ false → foundIn xs ms next x ≡ nothing 0
+  unfolding foundIn
   found-other h = simp h
 
   -- below a slot that there is not
-  pub found-past : paired xs ms ≡ true → slotCount < next → foundSlot xs ms next x ≡ slotCount
-  unfolding foundSlot
+  pub found-past : paired xs ms ≡ true → slotCount < next → foundIn xs ms next x ≡ nothing 0
+  unfolding foundIn
   found-past h l = simp (h, lt-leb next slotCount l)
 
   module _ (s : Searched xs ms next) where
@@ -76,36 +96,43 @@ module _ (xs ms : List ℕ) (next x : ℕ) where
     wide = length-take-le slotCount ms (omega (arith, s .sums-wide))
 
     -- the slots beside their marks
-    row : Row (marksIn ms) xs
-    row = tidy-row (marksIn ms) xs (s .slots-wide ∙ sym wide) (s .neat)
+    pub searched-row : Row (marksIn ms) xs
+    searched-row = tidy-row (marksIn ms) xs (s .slots-wide ∙ sym wide) (s .neat)
+
+    -- a slot that holds x has a mark and x
+    pub held : (i : ℕ) → i < slotCount → holds xs ms x i ≡ true → (getD (marksIn ms) i 0 ≡ 1) × (getD xs i 0 ≡ x)
+    held i l t =
+        let p = both (eqb (getD xs i 0) x) (eqb (getD ms i 0) 1) t in
+        (getD-take slotCount ms i 0 l ∙ eqb-true (getD ms i 0) 1 (p .1), eqb-true (getD xs i 0) x (p .0))
+
+    -- and one with a mark and x holds it
+    pub holding : (i : ℕ) → i < slotCount → getD (marksIn ms) i 0 ≡ 1 → getD xs i 0 ≡ x → holds xs ms x i ≡ true
+    holding i l m e = simp (eq-eqb (getD xs i 0) x e, eq-eqb (getD ms i 0) 1 (sym (getD-take slotCount ms i 0 l) ∙ m))
 
     -- no slot from i on holds x beside a mark
     abbrev Beyond : ℕ → Type 0
     Beyond i = (k : ℕ) → i ≤ k → getD (marksIn ms) k 0 ≡ 1 → getD xs k 0 ≡ x → ⊥
 
     -- one slot more
-    beyond : (i : ℕ) → i < slotCount → eqb (getD xs i 0) x && eqb (getD ms i 0) 1 ≡ false → Beyond (suc i) → Beyond i
+    beyond : (i : ℕ) → i < slotCount → holds xs ms x i ≡ false → Beyond (suc i) → Beyond i
     beyond i l f all k h m e = by (ℕ-discrete k i)
       where
         by : Dec (k ≡ i) → ⊥
-        by (yes q) =
-            let at-x : getD xs i 0 ≡ x = ap (λ (n : ℕ). getD xs n 0) (sym q) ∙ e in
-            let at-m : getD ms i 0 ≡ 1 = sym (getD-take slotCount ms i 0 l) ∙ ap (λ (n : ℕ). getD (marksIn ms) n 0) (sym q) ∙ m in
-            clash (simp (eq-eqb (getD xs i 0) x at-x, eq-eqb (getD ms i 0) 1 at-m)) f
+        by (yes q) = clash (holding i l (ap (λ (n : ℕ). getD (marksIn ms) n 0) (sym q) ∙ m) (ap (λ (n : ℕ). getD xs n 0) (sym q) ∙ e)) f
         by (no q) = all k (omega arith) m e
 
     -- where no slot from i on does, the search below i finds the slot
     last-slot : (i : ℕ) → i ≤ slotCount → Beyond i → lastBelow xs ms x i ≡ slotFrom (marksIn ms) xs x
     unfolding lastBelow
-    last-slot zero l all = sym (slot-none row x (λ k m e. all k (omega arith) m e) ∙ wide)
+    last-slot zero l all = sym (slot-none searched-row x (λ k m e. all k (omega arith) m e) ∙ wide)
     last-slot (suc i) l all =
-        by-test (eqb (getD xs i 0) x && eqb (getD ms i 0) 1)
-        (λ t. let p = both (eqb (getD xs i 0) x) (eqb (getD ms i 0) 1) t in
-        simp t (sym (slot-found row i x (s .apart) (getD-take slotCount ms i 0 (omega arith) ∙ eqb-true (getD ms i 0) 1 (p .1)) (eqb-true (getD xs i 0) x (p .0)))))
+        by-test (holds xs ms x i)
+        (λ t. let p = held i (omega arith) t in simp t (sym (slot-found searched-row i x (s .apart) (p .0) (p .1))))
         (λ f. simp f (last-slot i (omega arith) (beyond i (omega arith) f all)))
 
-    -- so it finds the slot of x
-    pub found-slot : foundSlot xs ms next x ≡ slotFrom (marksIn ms) xs x
+    -- so it finds the slot of x, and has looked at the slots on the way there
+    pub found-slot : foundIn xs ms next x ≡ record { slot = slotFrom (marksIn ms) xs x; looked = length (lookedBelow xs ms x next) }
     found-slot =
-        found-pair (pair-of xs ms (s .slots-wide) (s .sums-wide)) (s .low)
-        ∙ last-slot next (s .low) (λ k h m e. omega (arith, free-at (marksIn ms) next k (s .free) h))
+        found-walk (pair-of xs ms (s .slots-wide) (s .sums-wide)) (s .low)
+        ∙ ap (λ (k : ℕ). record { slot = k; looked = length (lookedBelow xs ms x next) })
+        (last-slot next (s .low) (λ k h m e. omega (arith, free-at (marksIn ms) next k (s .free) h)))

@@ -8,6 +8,7 @@ use lib.ListN.{length, drop, getD}
 use Rattle.reuse.specs.Limits.{slotCount, sumCount}
 use Rattle.reuse.specs.Lists.{distinct, sum}
 use Rattle.session_sums.specs.Sums.{marksIn, filled}
+use Rattle.session_marks.specs.declared.Found.{Found}
 
 -- the extents of the marked slots, in the slots' order
 unfoldable pub marked : List ℕ → List ℕ → List ℕ
@@ -31,14 +32,27 @@ slotFrom (m ∷ ms) (y ∷ ys) x = cond (eqb m 1 && eqb x y) 0 (suc (slotFrom ms
 unfoldable pub paired : List ℕ → List ℕ → Bool
 paired slots sums = eqb (length slots) slotCount && eqb (length sums) sumCount
 
+-- slot i is marked and holds x
+abbrev pub holds : List ℕ → List ℕ → ℕ → ℕ → Bool
+holds slots sums x i = eqb (getD slots i 0) x && eqb (getD sums i 0) 1
+
 -- the last marked slot below n that holds x; the number of slots where none does
 unfoldable pub lastBelow : List ℕ → List ℕ → ℕ → ℕ → ℕ
 lastBelow slots sums x zero = slotCount
-lastBelow slots sums x (suc i) = cond (eqb (getD slots i 0) x && eqb (getD sums i 0) 1) i (lastBelow slots sums x i)
+lastBelow slots sums x (suc i) = cond (holds slots sums x i) i (lastBelow slots sums x i)
 
--- the same in a session's rows; none is found in other rows, or below a slot that there is not
-unfoldable pub foundSlot : List ℕ → List ℕ → ℕ → ℕ → ℕ
-foundSlot slots sums next x = cond (paired slots sums && leb next slotCount) (lastBelow slots sums x next) slotCount
+-- the slots on the way there, one by one: from the one below n down to the marked one that holds x, or else to slot 0
+unfoldable pub lookedBelow : List ℕ → List ℕ → ℕ → ℕ → List ℕ
+lookedBelow slots sums x zero = []
+lookedBelow slots sums x (suc i) = i ∷ cond (holds slots sums x i) [] (lookedBelow slots sums x i)
+
+-- the search for x below next in a session's rows: the slot, and how many were looked at; in other rows, or below a slot
+-- that there is not, none is looked at
+unfoldable pub foundIn : List ℕ → List ℕ → ℕ → ℕ → Found
+foundIn slots sums next x =
+    cond (paired slots sums && leb next slotCount)
+    (record { slot = lastBelow slots sums x next; looked = length (lookedBelow slots sums x next) })
+    (record { slot = slotCount; looked = 0 })
 
 -- the marked slots of a session's rows moved, in order, to the first slots, 0 in the others; no marked slots in other rows
 unfoldable pub gatheredRow : List ℕ → List ℕ → List ℕ

@@ -1,8 +1,14 @@
 // The slots beside their marks, the leaves of the sums: the slot of an extent, and the marked extents gathered.
 ghost use mathlib.Core.Path.{_≡_};
-ghost use Rattle.session_marks.specs.Marks.{paired, foundSlot, gatheredRow};
+ghost use Rattle.session_marks.specs.Marks.{paired, foundIn, gatheredRow};
 use reuse::SLOTS;
 use reuse::SUMS;
+
+// What a search came to: the slot, and how many slots were looked at.
+pub struct Found {
+    pub slot: usize,
+    pub looked: u32,
+}
 
 // Whether the rows are as long as a session's slots and sums.
 fn paired<'a>(slots: &'a [u32], sums: &'a [u32]) -> bool
@@ -14,26 +20,38 @@ fn paired<'a>(slots: &'a [u32], sums: &'a [u32]) -> bool
     sums.len() == SUMS
 }
 
-// The marked slot below next that holds x, or the number of slots: the newest slots first. None in rows of another length.
-pub fn find<'a>(slots: &'a [u32], sums: &'a [u32], next: usize, x: u32) -> usize
-    ensures { λ r. ⌜ r ≡ foundSlot (now (slots .entry)) (now (sums .entry)) next x ⌝ }
+// The marked slot below next that holds x, or the number of slots, and how many slots were looked at: the newest first,
+// down to that one. In rows of another length none is looked at.
+pub fn find<'a>(slots: &'a [u32], sums: &'a [u32], next: usize, x: u32) -> Found
+    ensures { λ r. ⌜ r ≡ foundIn (now (slots .entry)) (now (sums .entry)) next x ⌝ }
 {
+    let mut looked: u32 = 0;
     if !paired(slots, sums) {
-        return SLOTS;
+        return Found {
+            slot: SLOTS,
+            looked,
+        };
     }
     if SLOTS < next {
-        return SLOTS;
+        return Found {
+            slot: SLOTS,
+            looked,
+        };
     }
     let mut i = next;
     while 0 < i {
         i = i - 1;
+        looked = looked + 1;
         if slots[i] == x {
             if sums[i] == 1 {
-                return i;
+                return Found { slot: i, looked };
             }
         }
     }
-    SLOTS
+    Found {
+        slot: SLOTS,
+        looked,
+    }
 }
 
 // The extents of the marked slots, in order, from slot 0; none in rows of another length.

@@ -1,21 +1,19 @@
 -- The ways of a refusal: what each test of it says.
-use Prim.Native.Nat.{ℕ}
-use mathlib.Core.Path.{_≡_, sym, _∙_}
+use Prim.Native.Nat.{ℕ, _≤_}
+use mathlib.Core.Path.{_≡_, sym, ap, _∙_}
 use mathlib.Core.List.{List}
 use mathlib.Core.Bool.{true, false}
 use native.Mathlib.Omega.{arith}
 use lib.ListN.{length}
+use lib.Seq.{take-all}
 use borrow.Author.Tests.{eqb-true, eq-eqb, ne-eqb}
-use Rattle.reuse.specs.Limits.{maxReads, maxExtents, slotCount}
+use Rattle.reuse.specs.Limits.{maxReads, maxExtents}
 use Rattle.reuse.specs.Lists.{mem}
-use Rattle.session_sums.specs.Sums.{marksIn}
-use Rattle.session_marks.specs.Marks.{marked, foundSlot, Searched}
 use Rattle.session_soundness.specs.Soundness.{extentsIn, stackIn, intactRows, Wide}
 use Rattle.session_refusals.specs.Refusals.{overfull, refusalOf}
-use Rattle.reuse.proofs.Lists.{by-test, both, mem-reverse}
-use Rattle.session_marks.proofs.Marks.{row-tidy, slot-absent, out-below}
-use Rattle.session_marks.proofs.Search.{pair-wide, found-slot}
-use Rattle.session_soundness.proofs.Sound.{Sound, root, true-sound, intact-wide, kept-root}
+use Rattle.reuse.proofs.Lists.{by-test, both}
+use Rattle.session_marks.proofs.Search.{pair-wide}
+use Rattle.session_soundness.proofs.Sound.{Sound, root, true-sound, intact-wide, kept-root, kept-listed}
 
 module _ (reads : ℕ) (first hist slots sums : List ℕ) (next : ℕ) where
   -- fields that pass the test are as wide as a session's
@@ -40,38 +38,12 @@ module _ (reads : ℕ) (first hist slots sums : List ℕ) (next : ℕ) where
   refusal-unsound x e = rw e
 
   module _ (ok : intactRows reads first hist slots sums next ≡ true) (x : ℕ) where
-    -- what a search relies on
-    searched : Searched slots sums next
-    searched =
-        let w = intact-fields ok in
+    -- where there are as many extents as the limit, F is all of its row, and has the extents of the stack
+    listed : root sums ≡ maxExtents → mem x first ≡ mem x (stackIn slots sums)
+    listed v =
         let k = intact-sound ok .kept in
-        record {
-          slots-wide = w .slots-wide;
-          sums-wide = w .sums-wide;
-          low = k .rows .low;
-          free = k .rows .free;
-          neat = row-tidy (k .rows .row);
-          apart = k .rows .apart;
-        }
-
-    -- the marks' extents are the stack's
-    stacked : mem x (stackIn slots sums) ≡ mem x (marked (marksIn sums) slots)
-    stacked = mem-reverse x (marked (marksIn sums) slots)
-
-    -- an extent that the search does not find is not in the stack
-    absent : foundSlot slots sums next x ≡ slotCount → mem x (stackIn slots sums) ≡ false
-    absent e =
-        let k = intact-sound ok .kept in
-        by-test (mem x (stackIn slots sums))
-        (λ t. absurd (omega (arith, out-below (k .rows .row) x next (sym stacked ∙ t) (k .rows .free), sym (found-slot slots sums next x searched) ∙ e, k .rows .low)))
-        (λ f. f)
-
-    -- one that it finds is
-    present : (foundSlot slots sums next x ≡ slotCount → ⊥) → mem x (stackIn slots sums) ≡ true
-    present n =
-        let k = intact-sound ok .kept in
-        by-test (mem x (stackIn slots sums)) (λ t. t)
-        (λ f. absurd (n (found-slot slots sums next x searched ∙ slot-absent (k .rows .row) x (sym stacked ∙ f) ∙ k .rows .wide)))
+        let all : length first ≤ extentsIn sums = omega (arith, intact-fields ok .first-wide, kept-root reads first hist slots sums next k) in
+        sym (ap (mem x) (take-all (extentsIn sums) first all)) ∙ kept-listed reads first hist slots sums next k x
 
     -- a read too many
     pub refusal-reads : reads ≡ maxReads → refusalOf reads first hist slots sums next x ≡ 8
@@ -80,15 +52,20 @@ module _ (reads : ℕ) (first hist slots sums : List ℕ) (next : ℕ) where
 
     module _ (n : reads ≡ maxReads → ⊥) where
       -- an extent too many
-      pub refusal-extents : root sums ≡ maxExtents → foundSlot slots sums next x ≡ slotCount → refusalOf reads first hist slots sums next x ≡ 9
+      pub refusal-extents : root sums ≡ maxExtents → mem x first ≡ false → refusalOf reads first hist slots sums next x ≡ 9
       unfolding refusalOf overfull
-      refusal-extents v e =
-          rw (ok, ne-eqb reads maxReads n, absent e, eq-eqb (extentsIn sums) maxExtents (sym (kept-root reads first hist slots sums next (intact-sound ok .kept)) ∙ v))
+      refusal-extents v f =
+          rw (
+            ok,
+            ne-eqb reads maxReads n,
+            sym (listed v) ∙ f,
+            eq-eqb (extentsIn sums) maxExtents (sym (kept-root reads first hist slots sums next (intact-sound ok .kept)) ∙ v),
+          )
 
       -- an extent that is known
-      pub refusal-known : (foundSlot slots sums next x ≡ slotCount → ⊥) → refusalOf reads first hist slots sums next x ≡ 0
+      pub refusal-known : root sums ≡ maxExtents → mem x first ≡ true → refusalOf reads first hist slots sums next x ≡ 0
       unfolding refusalOf overfull
-      refusal-known f = rw (ok, ne-eqb reads maxReads n, present f)
+      refusal-known v t = rw (ok, ne-eqb reads maxReads n, sym (listed v) ∙ t)
 
       -- fewer extents than the limit
       pub refusal-few : (root sums ≡ maxExtents → ⊥) → refusalOf reads first hist slots sums next x ≡ 0

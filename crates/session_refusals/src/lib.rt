@@ -3,13 +3,12 @@ ghost use mathlib.Core.Path.{_≡_};
 ghost use Rattle.session_refusals.specs.Refusals.{refusalOf};
 use reuse::MAX_EXTENTS;
 use reuse::MAX_READS;
-use reuse::SLOTS;
 
 // The place of the sum over all marks.
 const ROOT: usize = reuse::SUMS - 1;
 
-// Why a read of the extent x is refused: 7, 8 or 9; 0 where it is accepted. Its slot is looked up only where there are as
-// many extents as the limit.
+// Why a read of the extent x is refused: 7, 8 or 9; 0 where it is accepted. No slot is looked at: where there are as many
+// extents as the limit, F is all of its row.
 pub fn refusal<'a>(
     first: &'a [u32],
     hist: &'a [u32],
@@ -28,8 +27,7 @@ pub fn refusal<'a>(
         return 8;
     }
     if sums[ROOT] as usize == MAX_EXTENTS {
-        let k = session_marks::find(slots, sums, next, x);
-        if k == SLOTS {
+        if !reuse_rows::contains(first, x) {
             return 9;
         }
     }

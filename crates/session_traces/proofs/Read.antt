@@ -65,7 +65,7 @@ module _ (s : Session) (w : Wide (s .first) (s .hist) (s .slots) (s .sums)) (ok 
 
 -- an accepted read of a known extent by a session with room
 taken-neighbours : (s : Session) → Kept s → (x : ℕ) → mem x (stackOf s) ≡ true
-    → taken s x .answer ≡ Distance (suc (totalAt s (onTheWay s x))) (length (onTheWay s x))
+    → taken s x .answer ≡ Distance (suc (totalAt s (onTheWay s x))) (length (onTheWay s x)) (s .next - slotOf s x)
 unfolding taken
 taken-neighbours s k x old =
     let below : slotOf s x < slotCount = omega (arith, slot-below s k x old, k .rows .low) in
@@ -98,18 +98,16 @@ module _ (s : Session) (t : List ℕ) (g : Stands s t) (x : ℕ) where
   unfolding taken
   taken-is = rw (known-roomed s t (stands-known s t g) .stacked)
 
+  -- x is one extent too many for the session where it is for the trace
+  pub too-many : tooMany s x ≡ over t x
+  unfolding tooMany
+  too-many = rw (ap (mem x) (g .stacked) ∙ mem-stack x t, known-extents s t (stands-known s t g))
+
   -- what a read answers, by the trace alone
   pub read-is : readOf s x
       ≡ cond (eqb (length t) maxReads) (refused s 8) (cond (over t x) (refused s 9) (stepAt (roomed s) x (depth (stack t) x)))
-  unfolding readOf tooMany
-  read-is =
-      rw (
-        g .is-sound,
-        ap (λ (n : ℕ). eqb n maxReads) (g .counted),
-        ap (mem x) (g .stacked) ∙ mem-stack x t,
-        known-extents s t (stands-known s t g),
-        taken-is,
-      )
+  unfolding readOf
+  read-is = rw (g .is-sound, ap (λ (n : ℕ). eqb n maxReads) (g .counted), too-many, taken-is)
 
   -- a read too many
   pub read-full : eqb (length t) maxReads ≡ true → readOf s x ≡ refused s 8
@@ -123,12 +121,16 @@ module _ (s : Session) (t : List ℕ) (g : Stands s t) (x : ℕ) where
   pub read-taken : eqb (length t) maxReads ≡ false → over t x ≡ false → readOf s x ≡ stepAt (roomed s) x (depth (stack t) x)
   read-taken short few = read-is ∙ rw (short, few)
 
+  -- by the session's own stack
+  pub read-accepted : eqb (length t) maxReads ≡ false → over t x ≡ false → readOf s x ≡ taken (roomed s) x
+  read-accepted short few = read-taken short few ∙ sym taken-is
+
   -- an accepted read takes t one read on
   pub read-stands : eqb (length t) maxReads ≡ false → over t x ≡ false → Stands (readOf s x .session) (t ++ (x ∷ []))
   read-stands short few =
       let h = stands-known s t g in
       let m = kept-roomed s (h .kept) in
-      rw (read-taken short few, sym taken-is)
+      rw (read-accepted short few)
       (known-stands (taken (roomed s) x .session) (t ++ (x ∷ []))
       (known-taken (roomed s) t (known-roomed s t h) x (m .room)
       (λ new. let f : eqb (length (firsts t)) maxExtents ≡ false = simp new at few in

@@ -1,5 +1,5 @@
 -- The distance of a read by the sums over the marks (01, 'Session, slots and sums').
-use Prim.Native.Nat.{ℕ, suc, _<_}
+use Prim.Native.Nat.{ℕ, suc, _-_, _<_}
 use mathlib.Core.Path.{_≡_}
 use mathlib.Core.List.{List, map}
 use mathlib.Core.Bool.{true}
@@ -22,9 +22,9 @@ abbrev pub totalAt : Session → List ℕ → ℕ
 totalAt s places = sum (map (λ p. getD (s .sums) p 0) places)
 
 -- what an accepted read of a known extent answers, after any move of the marks: 1 plus the total of the sums on the way
--- up, and how many they are, which is the number of zeros of the slot's number
+-- up, how many they are, which is the number of zeros of the slot's number, and the slots looked at
 pub record Walk (s : Session) (x : ℕ) : Type 0 where
-  pub answer : readOf s x .answer ≡ Distance (suc (totalAt (roomed s) (onTheWay (roomed s) x))) (length (onTheWay (roomed s) x))
+  pub answer : readOf s x .answer ≡ Distance (suc (totalAt (roomed s) (onTheWay (roomed s) x))) (length (onTheWay (roomed s) x)) (roomed s .next - slotOf (roomed s) x)
   pub zeros-read : length (onTheWay (roomed s) x) ≡ zeros levels (slotOf (roomed s) x)
 
 -- of every sound session, whether or not a log gave it

@@ -84,12 +84,12 @@ read-kept s wide w l x =
 
 -- a read that is accepted puts the session's words
 pub left-read : (a : Answer) (s : Session) (w : List ℕ) → isRead a ≡ true → sessionLeft a s w ≡ putAt w 0 (sessionLaid s)
-left-read (Cold n) s w e = refl
-left-read (Distance d n) s w e = refl
+left-read (Cold n k) s w e = refl
+left-read (Distance d n k) s w e = refl
 left-read (Refused n) s w e = absurd (false≢true e)
 
 -- a refusal leaves the words
 pub left-refused : (a : Answer) (s : Session) (w : List ℕ) → isRead a ≡ false → sessionLeft a s w ≡ w
-left-refused (Cold n) s w e = absurd (true≢false e)
-left-refused (Distance d n) s w e = absurd (true≢false e)
+left-refused (Cold n k) s w e = absurd (true≢false e)
+left-refused (Distance d n k) s w e = absurd (true≢false e)
 left-refused (Refused n) s w e = refl

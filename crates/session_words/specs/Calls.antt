@@ -29,8 +29,8 @@ readIn w x = cond (leb sessionLength (length w)) (readOf (sessionIn w) x) (readR
 
 -- the words after a read: the session's at their front; a refusal leaves them as they were
 abbrev pub sessionLeft : Answer → Session → List ℕ → List ℕ
-sessionLeft (Cold n) s w = putAt w 0 (sessionLaid s)
-sessionLeft (Distance d n) s w = putAt w 0 (sessionLaid s)
+sessionLeft (Cold n k) s w = putAt w 0 (sessionLaid s)
+sessionLeft (Distance d n k) s w = putAt w 0 (sessionLaid s)
 sessionLeft (Refused n) s w = w
 
 -- the summary of the session in the first words; too few words are no sound session
@@ -47,6 +47,6 @@ shareIn w c = cond (leb sessionLength (length w)) (shareCall (sessionIn w) c) (N
 
 -- a read was accepted
 abbrev pub isRead : Answer → Bool
-isRead (Cold n) = true
-isRead (Distance d n) = true
+isRead (Cold n k) = true
+isRead (Distance d n k) = true
 isRead (Refused n) = false

@@ -13,10 +13,14 @@ fn accepted(a: Answer) -> bool
     ensures { λ r. ⌜ r ≡ isRead a ⌝ }
 {
     match a {
-        Answer::Cold { number: _ } => true,
+        Answer::Cold {
+            number: _,
+            slots_looked: _,
+        } => true,
         Answer::Distance {
             distance: _,
             sums_read: _,
+            slots_looked: _,
         } => true,
         Answer::Refused(_) => false,
     }

@@ -20,10 +20,14 @@ const SIZES: usize = 16;
 // Whether a read's answer is a distance of at most the size.
 fn is_within(answer: Answer, size: u32) -> bool {
     match answer {
-        Answer::Cold { number: _ } => false,
+        Answer::Cold {
+            number: _,
+            slots_looked: _,
+        } => false,
         Answer::Distance {
             distance,
-            sums_read,
+            sums_read: _,
+            slots_looked: _,
         } => distance <= size,
         Answer::Refused(_) => false,
     }

@@ -31,15 +31,21 @@ fn row(call: &[u8], step: Step) -> Session {
     let answer = step.answer;
     io::write_all(STDOUT_FILENO, call);
     match answer {
-        Answer::Cold { number } => {
+        Answer::Cold {
+            number,
+            slots_looked,
+        } => {
             put(b": cold ", number);
+            put(b", slots looked at ", slots_looked);
         }
         Answer::Distance {
             distance,
             sums_read,
+            slots_looked,
         } => {
             put(b": distance ", distance);
             put(b", sums read ", sums_read);
+            put(b", slots looked at ", slots_looked);
         }
         Answer::Refused(n) => {
             put(b": refused ", n);
@@ -58,6 +64,9 @@ fn main() {
     let full = row(b"the 256th extent", last_new.read(MAX_EXTENTS as u32 - 1));
     let known = row(b"256 extents, then a known one", full.read(0));
     row(b"256 extents, then another", known.read(MAX_EXTENTS as u32));
+    let twice = after(SLOTS as u32, MAX_EXTENTS as u32);
+    let kept = row(b"256 extents twice, then another", twice.read(MAX_EXTENTS as u32));
+    row(b"256 extents twice, then a known one", kept.read(0));
     let most = after(MAX_READS - 1, 1);
     let last = row(b"read 1,048,576", most.read(0));
     row(b"the next", last.read(0));

@@ -64,10 +64,10 @@ missesCall w = cond (soundOf w) (Misses (w .reads - w .hits)) (NoMisses 7)
 unfoldable pub shareCall : Watch → ShareAnswer
 shareCall w = cond (soundOf w) (Answered (shareOf (w .hits) (w .reads))) (NoShare 7)
 
--- what the watch takes of a session's answer: of a cold one not its number
+-- what the watch takes of a session's answer: of a cold one not its number, of none the sums read or the slots looked at
 abbrev pub heardOf : Answer → Heard
-heardOf (ColdRead n) = Read Cold
-heardOf (DistanceRead d n) = Read (Distance d)
+heardOf (ColdRead n k) = Read Cold
+heardOf (DistanceRead d n k) = Read (Distance d)
 heardOf (NoRead n) = Unread n
 
 -- a trace's answer as a reading: a cold one without its number

@@ -168,10 +168,14 @@ pub fn reading_of(answer: Answer) -> Heard
     ensures { λ r. ⌜ r ≡ heardOf answer ⌝ }
 {
     match answer {
-        Answer::Cold { number: _ } => Heard::Read(Reading::Cold),
+        Answer::Cold {
+            number: _,
+            slots_looked: _,
+        } => Heard::Read(Reading::Cold),
         Answer::Distance {
             distance,
             sums_read: _,
+            slots_looked: _,
         } => Heard::Read(Reading::Distance(distance)),
         Answer::Refused(n) => Heard::Refused(n),
     }

@@ -90,11 +90,11 @@ calls-stand (x ∷ xs) s t g = by (eqb (length t) maxReads) refl (over t x) refl
             ∙ keep-step (roomed s) x (depth (stack t) x) (accepted (readOf s x .session) xs)
 
 -- within the limits no read is one too many
-within-reads : (t u : List ℕ) (x : ℕ) → Within (t ++ (x ∷ u)) → eqb (length t) maxReads ≡ false
+pub within-reads : (t u : List ℕ) (x : ℕ) → Within (t ++ (x ∷ u)) → eqb (length t) maxReads ≡ false
 within-reads t u x w = ne-eqb (length t) maxReads (λ e. omega (arith, w .reads, length-append t (x ∷ u)))
 
 -- nor an extent
-within-extents : (t u : List ℕ) (x : ℕ) → Within (t ++ (x ∷ u)) → over t x ≡ false
+pub within-extents : (t u : List ℕ) (x : ℕ) → Within (t ++ (x ∷ u)) → over t x ≡ false
 within-extents t u x w = by (mem x t) refl
   where
     -- by whether x was read
@@ -149,8 +149,8 @@ seenWord (refused n) = 0
 -- so of a list of answers
 seen-words : (l : List Answer) → map seenWord (map seenOf l) ≡ map written l
 seen-words [] = refl
-seen-words (Cold n ∷ l) = ap {B = List ℕ} (λ r. wordOf (cold n) ∷ r) (seen-words l)
-seen-words (Distance d n ∷ l) = ap {B = List ℕ} (λ r. wordOf (at d) ∷ r) (seen-words l)
+seen-words (Cold n k ∷ l) = ap {B = List ℕ} (λ r. wordOf (cold n) ∷ r) (seen-words l)
+seen-words (Distance d n k ∷ l) = ap {B = List ℕ} (λ r. wordOf (at d) ∷ r) (seen-words l)
 seen-words (Refused n ∷ l) = ap {B = List ℕ} (λ r. 0 ∷ r) (seen-words l)
 
 -- the uncut reading's answers as the buffer writes them

@@ -43,8 +43,8 @@ saw w (refused n ∷ l) = saw w l
 hears-seen : (l : List Answer) (w : Watch) → watching w l ≡ saw w (map seenOf l)
 unfolding watching saw
 hears-seen [] w = refl
-hears-seen (Cold n ∷ l) w = hears-seen l _
-hears-seen (Distance d n ∷ l) w = hears-seen l _
+hears-seen (Cold n k ∷ l) w = hears-seen l _
+hears-seen (Distance d n k ∷ l) w = hears-seen l _
 hears-seen (Refused n ∷ l) w = hears-seen l w
 
 -- what is seen of a trace's answers

@@ -3,6 +3,7 @@ pub mod Refusals
 pub mod Groupings
 pub mod Plans
 pub mod Prefixes
+pub mod Looks
 pub mod Counts
 pub mod Splits
 pub mod Whole

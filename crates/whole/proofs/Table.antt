@@ -16,14 +16,15 @@ use Rattle.summary_calls.specs.Calls.{wrote, joinCall, missesCall, shareOf, sha
 use Rattle.reuse_rows.specs.Rows.{blank}
 use Rattle.after.specs.Calls.{afterCall}
 use Rattle.session_sums.specs.Sums.{pairs, sumsOf, zeros, same}
-use Rattle.session_marks.specs.Marks.{marked, tidy, slotFrom}
+use Rattle.session_marks.specs.Marks.{marked, tidy, slotFrom, lookedBelow}
 use Rattle.session_soundness.specs.Soundness.{soundRows}
 use Rattle.session.specs.Sessions.{fresh, marks, extents, stackOf, firstRow, sound}
-use Rattle.session.specs.Reads.{gathered, roomed, slotOf, moved, entered, taken, tooMany, readOf}
+use Rattle.session.specs.Reads.{gathered, roomed, slotOf, lookedAt, moved, entered, taken, tooMany, readOf}
 use Rattle.session_summary.specs.Summaries.{sessionWords, summaryCall, shareCall as sessionShare}
 use Rattle.session_traces.proofs.Stands.{fresh-stands}
 use Rattle.session_summary.proofs.Summaries.{share-trace}
 use Rattle.whole.specs.Runs.{sessionAfter, answersOf, grouped}
+use Rattle.whole.specs.Looks.{lookedAlong}
 use Rattle.whole.specs.Table.{oddWords, Table}
 
 -- the share of a new session
@@ -52,10 +53,12 @@ no-log t h =
 
 -- the rows of the calls and those of the definitions compute
 pub table : Table
-unfolding distances distance since afterCall answersOf sessionAfter grouped summaryCall sessionWords wrote joinCall missesCall shareCall shareOf wellFormed words summaryOf histogram joinOf joinedFirst joinedRecent joinedCounts joinedCount countFor shared across hitsOf missesOf readsOf extentsOf firstOf recentOf countsOf mem allIn distinct remove inside outside before firsts cleanup from sum count countAt reuses touch cacheMisses cacheHits hitCount hits admit evict oldest lastRead readOf sound soundRows extents firstRow same blank marks sumsOf pairs tidy stackOf marked roomed gathered slotOf slotFrom taken tooMany depth moved entered zeros
+unfolding distances distance since afterCall answersOf sessionAfter grouped summaryCall sessionWords wrote joinCall missesCall shareCall shareOf wellFormed words summaryOf histogram joinOf joinedFirst joinedRecent joinedCounts joinedCount countFor shared across hitsOf missesOf readsOf extentsOf firstOf recentOf countsOf mem allIn distinct remove inside outside before firsts cleanup from sum count countAt reuses touch cacheMisses cacheHits hitCount hits admit evict oldest lastRead readOf sound soundRows extents firstRow same blank marks sumsOf pairs tidy stackOf marked roomed gathered slotOf slotFrom taken tooMany depth moved entered zeros lookedAlong lookedAt lookedBelow
 table = record {
   reads-called = refl;
   sums-called = refl;
+  looked-called = refl;
+  looked-defined = refl;
   reads-defined = refl;
   later-called = refl;
   later-defined = (refl, refl);

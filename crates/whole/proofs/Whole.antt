@@ -16,6 +16,7 @@ use Rattle.session.specs.declared.Answer.the-variants.{Cold, Distance, Refused}
 use Rattle.session.specs.Sessions.{fresh}
 use Rattle.session_traces.proofs.Stands.{fresh-stands}
 use Rattle.session_traces.proofs.Read.{walks}
+use Rattle.session_traces.proofs.Looks.{looks}
 use Rattle.whole.specs.Runs.{answersOf, written, sessionAfter, gives, refused, Grouping, parts, logOf, grouped, roomy}
 use Rattle.whole.specs.Cuttings.{Cutting, cutParts, Follows, cutDistances, cutRoomy}
 use Rattle.whole.specs.Claim.{Seen, seenOf, heldBy, Claims, Claim}
@@ -26,6 +27,7 @@ use Rattle.whole.proofs.Plans.{plan-outcome}
 use Rattle.whole.proofs.Prefixes.{cutting-outcome}
 use Rattle.watch_words.proofs.Fed.{taking}
 use Rattle.split_calls.proofs.Refusals.{refusals}
+use Rattle.whole.proofs.Looks.{looked-along, log-looks}
 use Rattle.whole.proofs.Counts.{counts}
 use Rattle.whole.proofs.Splits.{splits}
 
@@ -36,8 +38,8 @@ held size (refused n) = false
 
 -- what was seen of an answer tells whether the cache holds the extent
 held-seen : (size : ℕ) (a : Answer) → held size (seenOf a) ≡ heldBy size a
-held-seen size (Cold n) = refl
-held-seen size (Distance d n) = refl
+held-seen size (Cold n k) = refl
+held-seen size (Distance d n k) = refl
 held-seen size (Refused n) = refl
 
 -- so of a list of answers
@@ -70,6 +72,8 @@ runs t w = record {
   accepts = all-accepted t fresh [] fresh-stands w;
   uncut = uncut t w;
   growth = trace-numbers t;
+  looked = looked-along t fresh [] fresh-stands w;
+  looks = λ earlier later x e. log-looks earlier later x (rw e w);
   uncut-summary = λ buffer. session-outcome (sessionAfter fresh t) t buffer (trace-stands t w);
   groupings = groupings t w;
   plans = plan-outcome t w;
@@ -84,6 +88,7 @@ claim = record {
   calls = calls-owed;
   no-trace = no-trace;
   walks = walks;
+  looks = looks;
   runs = runs;
   prefixes = λ w reads h. record { next = prefix-newcomer w (formed w h) reads; in-order = prefix-numbers w (formed w h) reads };
   watch-words = taking;

@@ -14,7 +14,9 @@ use Rattle.reuse.specs.Traces.{Within}
 use Rattle.session.specs.declared.Answer.{Answer}
 use Rattle.session.specs.declared.Answer.the-variants.{Cold, Distance, Refused}
 use Rattle.session.specs.Sessions.{fresh}
+use Rattle.session.specs.Reads.{slotsLooked}
 use Rattle.session_traces.specs.Walks.{Walks}
+use Rattle.session_traces.specs.Looks.{Looks}
 use Rattle.session_summary.specs.Summaries.{summaryCall}
 use Rattle.watch.specs.Watching.{soundOf}
 use Rattle.watch_words.specs.Layout.{watchLength, watchIn}
@@ -26,18 +28,19 @@ use Rattle.plan_calls.specs.Calls.{workWords, runCall}
 use Rattle.whole.specs.Runs.{planned, sessionAfter, answersOf, written, accepted, Reply, gives, refused, outcome, Grouping, parts, logOf, grouped, roomFor, roomy}
 use Rattle.split_calls.specs.Refusals.{Refusals}
 use Rattle.whole.specs.Newcomers.{Newcomers}
+use Rattle.whole.specs.Looks.{lookedAlong, Looked}
 use Rattle.whole.specs.Counts.{Counts}
 use Rattle.whole.specs.Splits.{Customers, Splits}
 use Rattle.whole.specs.Cuttings.{Cutting, cutParts, Follows, cutDistances, cutRoomy}
 
--- a read's answer without its count of sums: cold with its number, a distance, or its refusal
+-- a read's answer without its counts of sums and slots: cold with its number, a distance, or its refusal
 abbrev pub Seen : Type 0
 Seen = Reply Reuse
 
 -- of an answer
 abbrev pub seenOf : Answer → Seen
-seenOf (Cold n) = gives (cold n)
-seenOf (Distance d n) = gives (at d)
+seenOf (Cold n k) = gives (cold n)
+seenOf (Distance d n k) = gives (at d)
 seenOf (Refused n) = refused n
 
 -- what each of a list of read calls must answer, t being the reads accepted before: 8 where more reads than the
@@ -53,8 +56,8 @@ owed t (x ∷ xs) =
 
 -- an answer that is a distance of at most c
 abbrev pub heldBy : ℕ → Answer → Bool
-heldBy c (Cold n) = within c (cold n)
-heldBy c (Distance d n) = within c (at d)
+heldBy c (Cold n k) = within c (cold n)
+heldBy c (Distance d n k) = within c (at d)
 heldBy c (Refused n) = false
 
 -- what holds of every run over the log t
@@ -65,6 +68,10 @@ pub record Claims (t : List ℕ) : Type 0 where
   pub uncut : map seenOf (answersOf fresh t) ≡ map gives (reuses [] t)
   -- the numbers of its cold answers are 1, 2, and so on to the number of the log's extents
   pub growth : newcomers (reuses [] t) ≡ from 1 (length (firsts t))
+  -- each of its answers tells how many slots were looked at
+  pub looked : map slotsLooked (answersOf fresh t) ≡ map length (lookedAlong fresh t)
+  -- those from the newest down to the extent's own mark, or all below next; one for a read of the extent read last
+  pub looks : (earlier later : List ℕ) (x : ℕ) → earlier ++ (x ∷ later) ≡ t → Looked earlier x
   -- its summary is the log's
   pub uncut-summary : (buffer : List ℕ) →
       outcome (summaryCall (sessionAfter fresh t) buffer) ≡ cond (roomFor t buffer) (gives (summaryOf t)) (refused 6)
@@ -91,6 +98,9 @@ pub record Claim : Type 0 where
   -- the distance of an accepted read of a known extent is 1 plus the total of the sums on the way up from its slot, and the
   -- sums read are how many these are: of every sound session
   pub walks : Walks
+  -- the slots that an accepted read looks at are those from the newest down to its extent's own mark, or all below next: of
+  -- every sound session
+  pub looks : Looks
   -- and the rest
   pub runs : (t : List ℕ) → Within t → Claims t
   -- after any well-formed words, whether or not a log has them, a cold answer's number counts their extents too

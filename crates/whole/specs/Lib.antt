@@ -1,6 +1,7 @@
 pub mod Runs
 pub mod Cuttings
 pub mod Newcomers
+pub mod Looks
 pub mod Counts
 pub mod Splits
 pub mod Claim

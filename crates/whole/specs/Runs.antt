@@ -30,14 +30,14 @@ answersOf s (x ∷ xs) = readOf s x .answer ∷ answersOf (readOf s x .session) 
 
 -- an answer as the distance buffer writes it; a refusal, which none is here, as 0
 abbrev pub written : Answer → ℕ
-written (Cold n) = wordOf (cold n)
-written (Distance d n) = wordOf (at d)
+written (Cold n k) = wordOf (cold n)
+written (Distance d n k) = wordOf (at d)
 written (NoRead n) = 0
 
 -- a read joins those accepted unless it was refused
 abbrev pub keep : Answer → ℕ → List ℕ → List ℕ
-keep (Cold n) x xs = x ∷ xs
-keep (Distance d n) x xs = x ∷ xs
+keep (Cold n k) x xs = x ∷ xs
+keep (Distance d n k) x xs = x ∷ xs
 keep (NoRead n) x xs = xs
 
 -- the reads of these calls that were accepted

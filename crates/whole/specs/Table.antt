@@ -1,4 +1,4 @@
--- The rows that 01 marks with a star, and 02's of newcomers. Each has two halves: what the calls answer, and what the log's own definitions give.
+-- The rows that 01 marks with a star, and 02's of newcomers and of slots looked at. Each has two halves: what the calls answer, and what the log's own definitions give.
 use Prim.Native.Nat.{ℕ}
 use mathlib.Core.Path.{_≡_}
 use mathlib.Core.List.{List, [], _∷_, _++_, map}
@@ -14,9 +14,10 @@ use Rattle.summary_calls.specs.Calls.{joinCall, missesCall, shareCall}
 use Rattle.after.specs.Calls.{afterCall}
 use Rattle.session.specs.declared.Answer.the-variants.{Cold, Distance}
 use Rattle.session.specs.Sessions.{fresh}
-use Rattle.session.specs.Reads.{sumsRead}
+use Rattle.session.specs.Reads.{sumsRead, slotsLooked}
 use Rattle.session_summary.specs.Summaries.{shareCall as sessionShare}
 use Rattle.whole.specs.Runs.{answersOf, gives, outcome, Grouping, part, joined, grouped}
+use Rattle.whole.specs.Looks.{lookedAlong}
 use Rattle.whole.specs.Counts.{cacheShare}
 
 -- the first four of the seven reads
@@ -62,9 +63,13 @@ abbrev pub bothOf : List ℕ → List ℕ → Grouping
 bothOf a b = joined (partOf a) (partOf b) (replicate 20 5)
 
 pub record Table : Type 0 where
-  -- 7 3 7 9 3 3 9: cold 1, cold 2, 2, cold 3, 3, 1, 2; sums read 0 0 9 0 8 8 7
-  pub reads-called : answersOf fresh seven ≡ Cold 1 ∷ Cold 2 ∷ Distance 2 9 ∷ Cold 3 ∷ Distance 3 8 ∷ Distance 1 8 ∷ Distance 2 7 ∷ []
+  -- 7 3 7 9 3 3 9: cold 1, cold 2, 2, cold 3, 3, 1, 2; sums read 0 0 9 0 8 8 7; slots looked at 0 1 2 3 3 1 3
+  pub reads-called : answersOf fresh seven
+      ≡ Cold 1 0 ∷ Cold 2 1 ∷ Distance 2 9 2 ∷ Cold 3 3 ∷ Distance 3 8 3 ∷ Distance 1 8 1 ∷ Distance 2 7 3 ∷ []
   pub sums-called : map sumsRead (answersOf fresh seven) ≡ 0 ∷ 0 ∷ 9 ∷ 0 ∷ 8 ∷ 8 ∷ 7 ∷ []
+  pub looked-called : map slotsLooked (answersOf fresh seven) ≡ 0 ∷ 1 ∷ 2 ∷ 3 ∷ 3 ∷ 1 ∷ 3 ∷ []
+  pub looked-defined : lookedAlong fresh seven
+      ≡ [] ∷ (0 ∷ []) ∷ (1 ∷ 0 ∷ []) ∷ (2 ∷ 1 ∷ 0 ∷ []) ∷ (3 ∷ 2 ∷ 1 ∷ []) ∷ (4 ∷ []) ∷ (5 ∷ 4 ∷ 3 ∷ []) ∷ []
   pub reads-defined : reuses [] seven ≡ cold 1 ∷ cold 2 ∷ at 2 ∷ cold 3 ∷ at 3 ∷ at 1 ∷ at 2 ∷ []
   -- 3 3 9 8 after the summary of 7 3 7 9: 3 1 2 and cold 4, written 65,540
   pub later-called : outcome (afterCall frontWords later (replicate 20 5)) ≡ gives (3 ∷ 1 ∷ 2 ∷ 65_540 ∷ [])

@@ -37,16 +37,16 @@ refusal-requires c κs = search needs
 
 returns : tie.Need-returns
 returns c =
-    (read-pos (coldBase + c .before .a .given .0 .0) (omega (arith, c .known-told .given)) ∙ sym (rw (c .before .a .given .1)), sym (rw (c .before .a .given .1)))
+    (read-pos (coldBase + c .before .a .given .0 .0) (omega (arith, c .known-told .given)) ∙ sym (rw (c .before .a .given .1)), sym (rw (c .before .a .given .1)), sym (rw (c .before .a .given .1)))
 
 returns-2 : tie.Need-returns-2
 returns-2 c =
-    (read-pos (c .before .a2 .given .0 .0) (omega (arith, c .known-told2 .given)) ∙ sym (rw (c .before .a2 .given .1)), sym (rw (c .before .a2 .given .1)))
+    (read-pos (c .before .a2 .given .0 .0) (omega (arith, c .known-told2 .given)) ∙ sym (rw (c .before .a2 .given .1)), sym (rw (c .before .a2 .given .1)), sym (rw (c .before .a2 .given .1)))
 
 returns-3 : tie.Need-returns-3
 returns-3 c =
     let e = c .before .before .a3 .given .1 in
-    (read-back (c .refusal .result) _ (c .refusal .ok) (c .refusal .ensures ∙ sym (rw e)), sym (rw e))
+    (read-back (c .refusal .result) _ (c .refusal .ok) (c .refusal .ensures ∙ sym (rw e)), sym (rw e), sym (rw e))
 
 pub read-spec : {M : Type 1} → statement M
 read-spec =

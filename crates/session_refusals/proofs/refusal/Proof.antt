@@ -34,14 +34,14 @@ shared-slice-read-if3 c = omega (arith, intact-fields _ _ _ _ _ _ (ok (c .before
 cast-if3 : tie.Need-cast-if3
 cast-if3 c = omega (arith, c .shared-slice-known5 .given (sumCount - 1))
 
-find-requires : tie.Need-find-requires
-find-requires c κs = search needs
+contains-requires : tie.Need-contains-requires
+contains-requires c κs = search needs
 
 returns-3 : tie.Need-returns-3
-returns-3 c = let b = c .before .before .before .before in sym (refusal-extents _ _ _ _ _ _ (ok (b .before)) _ (b .if2 .left) (c .before .before .if3 .taken) (sym (c .before .find .ensures) ∙ c .if4 .taken))
+returns-3 c = let b = c .before .before .before .before in sym (refusal-extents _ _ _ _ _ _ (ok (b .before)) _ (b .if2 .left) (c .before .before .if3 .taken) (sym (c .before .contains .ensures) ∙ not-true _ (c .if4 .taken)))
 
 returns-4 : tie.Need-returns-4
-returns-4 c = let b = c .before .before .before .before in sym (refusal-known _ _ _ _ _ _ (ok (b .before)) _ (b .if2 .left) (λ e. c .if4 .left (c .before .find .ensures ∙ e)))
+returns-4 c = let b = c .before .before .before .before in sym (refusal-known _ _ _ _ _ _ (ok (b .before)) _ (b .if2 .left) (c .before .before .if3 .taken) (sym (c .before .contains .ensures) ∙ not-false _ (c .if4 .left)))
 
 returns-5 : tie.Need-returns-5
 returns-5 c = let b = c .before .before in sym (refusal-few _ _ _ _ _ _ (ok (b .before)) _ (b .if2 .left) (c .if3 .left))
@@ -55,7 +55,7 @@ refusal-spec =
     returns-2
     shared-slice-read-if3
     cast-if3
-    find-requires
+    contains-requires
     returns-3
     returns-4
     returns-5)

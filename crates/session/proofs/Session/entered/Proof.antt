@@ -44,15 +44,15 @@ add-self c = search needs
 add-self-2 : tie.Need-add-self-2
 add-self-2 c = search needs
 
-add-t8 : tie.Need-add-t8
+add-t9 : tie.Need-add-t9
 unfolding leaves extents marks
-add-t8 c = let p = c .before .before .before .pre in record { fits = omega (arith, trued-root levels slotCount _ (p .trued) refl, p .few) }
+add-t9 c = let p = c .before .before .before .pre in record { fits = omega (arith, trued-root levels slotCount _ (p .trued) refl, p .few) }
 
 returns : tie.Need-returns
 unfolding leaves extents marks entered
 returns c =
     let p = c .before .before .before .pre in
-    simp (add-one, trued-root levels slotCount _ (p .trued) refl, c .put-mark .ensures ∙ put-trued _ _ 1 (p .trued) (p .room) (omega arith))
+    simp (add-one, p .seen, trued-root levels slotCount _ (p .trued) refl, c .put-mark .ensures ∙ put-trued _ _ 1 (p .trued) (p .room) (omega arith))
 
 pub entered-spec : {M : Type 1} → statement M
 entered-spec =
@@ -68,5 +68,5 @@ entered-spec =
     element-write-self-2
     add-self
     add-self-2
-    add-t8
+    add-t9
     returns)

@@ -40,9 +40,9 @@ total c = ap (λ (w : Walked). w .total) (walked c)
 small : (c : tie.After-above) → c .above .result .total < maxExtents
 small c = omega (arith, total c, start c .pre .behind)
 
--- the step, of what the walk read and the sums with the mark moved
-moved-step : (s : Session) (x k : ℕ) (w : Walked) (sums : List ℕ)
-    → k ≡ slotOf s x → w ≡ record { total = sum (drop (suc k) (marks s)); count = zeros levels k } → sums ≡ sumsOf levels (set (set (marks s) k 0) (s .next) 1)
+-- the step, of the slots looked at, what the walk read and the sums with the mark moved
+moved-step : (s : Session) (x k looked : ℕ) (w : Walked) (sums : List ℕ)
+    → k ≡ slotOf s x → looked ≡ s .next - k → w ≡ record { total = sum (drop (suc k) (marks s)); count = zeros levels k } → sums ≡ sumsOf levels (set (set (marks s) k 0) (s .next) 1)
     → _≡_ {A = Step}
     (record {
       session = record {
@@ -53,14 +53,14 @@ moved-step : (s : Session) (x k : ℕ) (w : Walked) (sums : List ℕ)
         sums = sums;
         next = s .next + 1;
       };
-      answer = Distance (w .total + 1) (w .count);
+      answer = Distance (w .total + 1) (w .count) looked;
     })
     (stepAt s x (at (suc (sum (drop (suc k) (marks s))))))
 unfolding moved
-moved-step s x k w sums here read put =
+moved-step s x k looked w sums here seen read put =
     let n = sum (drop (suc k) (marks s)) in
     let back : suc n - 1 ≡ n = omega arith in
-    simp (add-one, ← here, back, read, put)
+    simp (add-one, ← here, back, seen, read, put)
 
 above-requires : tie.Need-above-requires
 above-requires c κs = search needs
@@ -109,11 +109,11 @@ add-self-2 c = omega arith
 add-self-3 : tie.Need-add-self-3
 add-self-3 c = omega arith
 
-cast-t10 : tie.Need-cast-t10
-cast-t10 c = omega (arith, small (c .before .before .before .before .before))
+cast-t11 : tie.Need-cast-t11
+cast-t11 c = omega (arith, small (c .before .before .before .before .before))
 
-add-t21 : tie.Need-add-t21
-add-t21 c = omega (arith, small (c .before .before .before .before .before))
+add-t22 : tie.Need-add-t22
+add-t22 c = omega (arith, small (c .before .before .before .before .before))
 
 returns : tie.Need-returns
 unfolding marks
@@ -122,7 +122,7 @@ returns c =
     let p = start a .pre in
     let s = start a .args .t1 in
     let k = start a .args .k in
-    moved-step s (start a .args .x) k (a .above .result) (c .before .put-mark2 .last .0) (p .here) (walked a)
+    moved-step s (start a .args .x) k (start a .args .looked) (a .above .result) (c .before .put-mark2 .last .0) (p .here) (p .seen) (walked a)
     (c .before .put-mark2 .ensures
     ∙ ap (λ (l : List ℕ). markPut l (s .next) 1) (c .before .before .before .put-mark .ensures)
     ∙ put-moved (s .sums) k (s .next) (p .trued) (omega (arith, p .below, p .room)) (p .room))
@@ -146,6 +146,6 @@ moved-spec =
     element-write-self-3
     add-self-2
     add-self-3
-    cast-t10
-    add-t21
+    cast-t11
+    add-t22
     returns)

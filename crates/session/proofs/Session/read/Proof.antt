@@ -4,11 +4,11 @@ use mathlib.Core.Path.{_≡_, sym, subst, _∙_}
 use mathlib.Core.Logic.{⊎-elim}
 use native.Mathlib.Omega.{arith}
 use Rattle.session.specs.declared.Session.{Session}
-use Rattle.session.specs.Reads.{slotOf}
 use Rattle.session_soundness.specs.Soundness.{Wide}
 use Rattle.session.proofs.Sound.{Kept, rows-of}
 use Rattle.session.proofs.Taken.{Roomed, room-made, room-there}
-use Rattle.session.proofs.Ways.{Accepted, found, gatherable, refused-way, accepts, moves, known-way, enters, cold-way}
+use Rattle.session.proofs.Looked.{searchOf, found}
+use Rattle.session.proofs.Ways.{Accepted, gatherable, refused-way, accepts, moves, known-way, enters, cold-way}
 use borrow.Author.Needs.{needs}
 use Rattle.session.proofs.Session.read.Statement.{statement}
 use Rattle.session.proofs.Session.read.Tie as tie
@@ -50,9 +50,9 @@ made c =
 abbrev roomy : tie.After-find → tie.Joined2
 roomy c = c .before .before .before .before .before .before
 
--- the slot that the search finds is the extent's
-slot : (c : tie.After-find) → c .find .result ≡ slotOf (roomy c .if2 .self) (extent (roomy c .before .before))
-slot c = c .find .ensures ∙ found (roomy c .if2 .self) (made (roomy c) .kept) (extent (roomy c .before .before))
+-- the search finds the extent's slot
+searched : (c : tie.After-find) → c .find .result ≡ searchOf (roomy c .if2 .self) (extent (roomy c .before .before))
+searched c = c .find .ensures ∙ found (roomy c .if2 .self) (made (roomy c) .kept) (extent (roomy c .before .before))
 
 cast-next : tie.Need-cast-next
 cast-next c = search needs
@@ -79,25 +79,25 @@ find-requires c κs = search needs
 
 entered-requires : tie.Need-entered-requires
 entered-requires c κs =
-    let j = roomy (c .before) in
-    enters _ (wide (start (j .before .before))) _ (accepted (j .before)) _ _ (made j) (slot (c .before)) (c .if3 .taken)
+    let j = roomy (c .before .before) in
+    enters _ (wide (start (j .before .before))) _ (accepted (j .before)) _ _ (made j) (searched (c .before .before)) (c .if3 .taken)
 
 returns-2 : tie.Need-returns-2
 returns-2 c =
-    let j = roomy (c .before .before) in
+    let j = roomy (c .before .before .before) in
     c .entered .ensures
-    ∙ cold-way _ (wide (start (j .before .before))) _ (accepted (j .before)) _ _ (made j) (slot (c .before .before)) (c .before .if3 .taken)
+    ∙ cold-way _ (wide (start (j .before .before))) _ (accepted (j .before)) _ _ (made j) (searched (c .before .before .before)) (c .before .if3 .taken)
 
 moved-requires : tie.Need-moved-requires
 moved-requires c κs =
-    let j = roomy (c .before) in
-    moves _ (wide (start (j .before .before))) _ (accepted (j .before)) _ _ (made j) (slot (c .before)) (c .if3 .left)
+    let j = roomy (c .before .before) in
+    moves _ (wide (start (j .before .before))) _ (accepted (j .before)) _ _ (made j) (searched (c .before .before)) (c .if3 .left)
 
 returns-3 : tie.Need-returns-3
 returns-3 c =
-    let j = roomy (c .before .before) in
+    let j = roomy (c .before .before .before) in
     c .moved .ensures
-    ∙ known-way _ (wide (start (j .before .before))) _ (accepted (j .before)) _ _ (made j) (slot (c .before .before)) (c .before .if3 .left)
+    ∙ known-way _ (wide (start (j .before .before))) _ (accepted (j .before)) _ _ (made j) (searched (c .before .before .before)) (c .before .if3 .left)
 
 pub read-spec : {M : Type 1} → statement M
 read-spec =

@@ -1,0 +1,152 @@
+-- The slots that a read looks at: of every sound session, and of one that has read a trace.
+use Prim.Native.Nat.{ℕ, zero, suc, _-_, _≤_, _<_}
+use mathlib.Core.Path.{_≡_, refl, sym, ap, _∙_}
+use mathlib.Core.List.{List, [], _∷_, _++_}
+use mathlib.Core.Bool.{true, false, or-true}
+use native.Mathlib.Omega.{arith}
+use native.Mathlib.Decide.{ℕ-discrete}
+use lib.Dec.{eqb}
+use lib.ListN.{length, drop, getD, set, replicate, length-set}
+use lib.Seq.{getD-set-same}
+use borrow.Author.Tests.{ne-eqb}
+use Rattle.reuse.specs.Lists.{mem, remove, before, sum}
+use Rattle.reuse.specs.Lru.{at, depth, touch, stack}
+use Rattle.reuse.specs.Limits.{maxReads, slotCount}
+use Rattle.session.specs.declared.Session.{Session}
+use Rattle.session.specs.declared.Step.{Step}
+use Rattle.session.specs.Sessions.{marks, extents, stackOf}
+use Rattle.session.specs.Reads.{gathered, roomed, slotOf, lookedAt, moved, entered, taken, readOf, slotsLooked}
+use Rattle.session_traces.specs.Looks.{Look, Looks}
+use Rattle.reuse.proofs.Lists.{by-test, eqb-same, mem-head, mem-append}
+use Rattle.reuse.proofs.Stack.{stack-snoc}
+use Rattle.reuse.proofs.Depth.{depth-present, depth-absent}
+use Rattle.reuse.proofs.Sums.{free-at, at-le-sum}
+use Rattle.session_marks.proofs.Marks.{slot-found}
+use Rattle.session.proofs.Sound.{Kept, true-sound}
+use Rattle.session.proofs.Taken.{Roomed, kept-roomed, gathered-marks, entered-marks, moved-marks, slot-below, slot-depth}
+use Rattle.session.proofs.Looked.{looked-old, count-old, looked-absent, count-absent}
+use Rattle.session_traces.proofs.Stands.{Stands, stands-known}
+use Rattle.session_traces.proofs.Read.{over, read-accepted, read-stands}
+
+-- how many slots a step tells
+abbrev tells : Step → ℕ
+tells r = slotsLooked (r .answer)
+
+-- depths are one number
+one-depth : {a b : ℕ} → at (suc a) ≡ at (suc b) → a ≡ b
+one-depth e = cc
+
+module _ (s : Session) (k : Kept s) (x : ℕ) where
+  -- an accepted read by a session with room tells how many slots its search looks at
+  taken-told : tells (taken s x) ≡ length (lookedAt s x)
+  unfolding taken
+  taken-told =
+      by-test (mem x (stackOf s))
+      (λ m. rw (depth-present x (stackOf s) m) (sym (count-old s k x m)))
+      (λ m. rw (depth-absent x (stackOf s) m) (sym (count-absent s k x m)))
+
+  -- no more than next
+  looked-most : length (lookedAt s x) ≤ s .next
+  looked-most = by-test (mem x (stackOf s)) (λ m. omega (arith, count-old s k x m)) (λ m. omega (arith, count-absent s k x m))
+
+-- what an accepted read looks at
+accepted-look : (s : Session) → Kept s → (x : ℕ) → readOf s x ≡ taken (roomed s) x → Look s x
+accepted-look s k x is =
+    let m : Roomed s (roomed s) = kept-roomed s k in
+    let told : tells (readOf s x) ≡ length (lookedAt (roomed s) x) = ap tells is ∙ taken-told (roomed s) (m .kept) x in
+    record {
+      told = told;
+      known = λ old. looked-old (roomed s) (m .kept) x (ap (mem x) (m .stacked) ∙ old);
+      one-mark = λ i mark e. unfold slotOf in sym (slot-found (m .kept .rows .row) i x (m .kept .rows .apart) mark e);
+      new = λ absent. looked-absent (roomed s) (m .kept) x (ap (mem x) (m .stacked) ∙ absent);
+      most = omega (arith, told, looked-most (roomed s) (m .kept) x);
+      room = m .room;
+    }
+
+-- of every sound session
+pub looks : Looks
+looks s w ok x short few =
+    accepted-look s (true-sound s w ok .kept) x (unfold readOf in rw (ok, ne-eqb (s .reads) maxReads (λ e. omega arith), few))
+
+-- the newest slot, the one below next, is marked
+abbrev NewestMarked : Session → Type 0
+NewestMarked s = getD (marks s) (s .next - 1) 0 ≡ 1
+
+-- then it is the slot of the extent on top of the stack, and a search for that looks at one slot
+newest-one : (s : Session) → Kept s → (x : ℕ) (rest : List ℕ) → NewestMarked s → stackOf s ≡ x ∷ rest → length (lookedAt s x) ≡ 1
+newest-one s k x rest newest top = count-old s k x old ∙ by (ℕ-discrete (s .next) (suc (slotOf s x)))
+  where
+    -- x is in the stack
+    old : mem x (stackOf s) ≡ true
+    old = rw top (mem-head x rest)
+
+    -- on top of it, so no mark is behind its slot
+    behind : sum (drop (suc (slotOf s x)) (marks s)) ≡ 0
+    behind = one-depth (sym (slot-depth s k x old) ∙ rw top (unfold depth in simp (eqb-same x)))
+
+    by : Dec (s .next ≡ suc (slotOf s x)) → s .next - slotOf s x ≡ 1
+    by (yes e) = omega arith
+    by (no n) = absurd (omega (arith, newest, free-at (marks s) (suc (slotOf s x)) (s .next - 1) behind (omega (arith, slot-below s k x old))))
+
+-- a read leaves its mark in the newest slot
+taken-newest : (s : Session) → Kept s → (x : ℕ) → s .next < slotCount → NewestMarked (taken s x .session)
+unfolding taken
+taken-newest s k x room =
+    by-test (mem x (stackOf s))
+    (λ m. rw (depth-present x (stackOf s) m)
+    (newest-at (moved s x (suc (length (before x (stackOf s))))) (set (marks s) (slotOf s x) 0) (s .next) (moved-marks s k x room m (length (before x (stackOf s)))) (unfold moved in refl)
+    (omega (arith, length-set (marks s) (slotOf s x) 0, k .rows .wide))))
+    (λ m. rw (depth-absent x (stackOf s) m)
+    (newest-at (entered s x) (marks s) (s .next) (entered-marks s k x room) (unfold entered in refl) (omega (arith, k .rows .wide))))
+  where
+    -- the mark set at next, and next one on
+    newest-at : (r : Session) (ms : List ℕ) (n : ℕ) → marks r ≡ set ms n 1 → r .next ≡ suc n → n < length ms → NewestMarked r
+    newest-at r ms n put on l =
+        let back : suc n - 1 ≡ n = omega arith in
+        rw (put, on, back) (getD-set-same ms n 1 0 l)
+
+-- marks in the first slots
+ones : (v m i : ℕ) → i < v → getD (replicate v 1 ++ replicate m 0) i 0 ≡ 1
+ones zero m i l = absurd (omega arith)
+ones (suc v) m zero l = refl
+ones (suc v) m (suc i) l = ones v m i (omega arith)
+
+-- a move of the marks leaves one in the newest slot
+roomed-newest : (s : Session) → Kept s → NewestMarked s → NewestMarked (roomed s)
+unfolding roomed
+roomed-newest s k newest =
+    by-test (eqb (s .next) slotCount)
+    (λ e. simp e
+    (rw (gathered-marks s k)
+    (unfold gathered extents in ones (sum (marks s)) (slotCount - sum (marks s)) (sum (marks s) - 1) (omega (arith, newest, at-le-sum (marks s) (s .next - 1))))))
+    (λ e. simp e newest)
+
+module _ (s : Session) (t : List ℕ) (g : Stands s t) (x : ℕ) (short : eqb (length t) maxReads ≡ false) (few : over t x ≡ false) where
+  -- what a read looks at after a trace
+  pub trace-look : Look s x
+  trace-look = accepted-look s (stands-known s t g .kept) x (read-accepted s t g x short few)
+
+  -- the session after the read, and what it has read
+  abbrev after : Session
+  after = readOf s x .session
+
+  abbrev longer : List ℕ
+  longer = t ++ (x ∷ [])
+
+  -- the read leaves its mark in the newest slot
+  read-newest : NewestMarked after
+  read-newest =
+      let m : Roomed s (roomed s) = kept-roomed s (stands-known s t g .kept) in
+      rw (read-accepted s t g x short few) (taken-newest (roomed s) (m .kept) x (m .room))
+
+  -- so one more of the same extent looks at one slot
+  pub read-again : eqb (length (t ++ (x ∷ []))) maxReads ≡ false → slotsLooked (readOf (readOf s x .session) x .answer) ≡ 1
+  read-again more =
+      let h : Stands after longer = read-stands s t g x short few in
+      let k : Kept after = stands-known after longer h .kept in
+      let m : Roomed after (roomed after) = kept-roomed after k in
+      let old : mem x longer ≡ true = mem-append x t (x ∷ []) ∙ rw (mem-head x []) (or-true (mem x t)) in
+      let top : stackOf after ≡ x ∷ remove x (stack t) = h .stacked ∙ stack-snoc t x ∙ unfold touch in refl in
+      ap tells (read-accepted after longer h x more (rw old))
+      ∙ taken-told (roomed after) (m .kept) x
+      ∙ newest-one (roomed after) (m .kept) x (remove x (stack t)) (roomed-newest after k read-newest) (m .stacked ∙ top)
