@@ -15,7 +15,12 @@ pub extern "C" fn jemqolu_session_new(session: &mut [u32]) -> i64
 // A read of the extent by the session in the words: its answer as the buffer of distances writes it, how many sums it read,
 // and how many slots it looked at.
 #[no_mangle]
-pub extern "C" fn jemqolu_session_read(session: &mut [u32], extent: u32, sums: &mut u32, slots: &mut u32) -> i64
+pub extern "C" fn jemqolu_session_read(
+    session: &mut [u32],
+    extent: u32,
+    sums: &mut u32,
+    slots: &mut u32,
+) -> i64
     ensures is { λ r. ⌜ r ≡ told (readIn (now (session .entry)) extent .answer) ⌝ }
     ensures session { λ r. ⌜ now (session .exit) ≡ sessionLeft (readIn (now (session .entry)) extent .answer) (readIn (now (session .entry)) extent .session) (now (session .entry)) ⌝ }
     ensures sums { λ r. ⌜ now (sums .exit) ≡ sumsLeft (readIn (now (session .entry)) extent .answer) (now (sums .entry)) ⌝ }

@@ -27,8 +27,15 @@ pub struct Session {
 // A read's answer: cold with the number of different extents read, itself included; its distance with the number of sums
 // read; both with the number of slots looked at; or the refusal's number.
 pub enum Answer {
-    Cold { number: u32, slots_looked: u32 },
-    Distance { distance: u32, sums_read: u32, slots_looked: u32 },
+    Cold {
+        number: u32,
+        slots_looked: u32,
+    },
+    Distance {
+        distance: u32,
+        sums_read: u32,
+        slots_looked: u32,
+    },
     Refused(u32),
 }
 

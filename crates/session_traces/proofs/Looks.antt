@@ -1,6 +1,6 @@
 -- The slots that a read looks at: of every sound session, and of one that has read a trace.
 use Prim.Native.Nat.{ℕ, zero, suc, _-_, _≤_, _<_}
-use mathlib.Core.Path.{_≡_, refl, sym, ap, _∙_}
+use mathlib.Core.Path.{_≡_, refl, sym, ap, subst, _∙_}
 use mathlib.Core.List.{List, [], _∷_, _++_}
 use mathlib.Core.Bool.{true, false, or-true}
 use native.Mathlib.Omega.{arith}
@@ -106,7 +106,7 @@ taken-newest s k x room =
         rw (put, on, back) (getD-set-same ms n 1 0 l)
 
 -- marks in the first slots
-ones : (v m i : ℕ) → i < v → getD (replicate v 1 ++ replicate m 0) i 0 ≡ 1
+ones : (v m i : ℕ) → i < v → getD (replicate {A = ℕ} v 1 ++ replicate m 0) i 0 ≡ 1
 ones zero m i l = absurd (omega arith)
 ones (suc v) m zero l = refl
 ones (suc v) m (suc i) l = ones v m i (omega arith)
@@ -137,7 +137,7 @@ module _ (s : Session) (t : List ℕ) (g : Stands s t) (x : ℕ) (short : eqb (l
   read-newest : NewestMarked after
   read-newest =
       let m : Roomed s (roomed s) = kept-roomed s (stands-known s t g .kept) in
-      rw (read-accepted s t g x short few) (taken-newest (roomed s) (m .kept) x (m .room))
+      subst (λ (r : Step). NewestMarked (r .session)) (sym (read-accepted s t g x short few)) (taken-newest (roomed s) (m .kept) x (m .room))
 
   -- so one more of the same extent looks at one slot
   pub read-again : eqb (length (t ++ (x ∷ []))) maxReads ≡ false → slotsLooked (readOf (readOf s x .session) x .answer) ≡ 1

@@ -65,7 +65,10 @@ fn main() {
     let known = row(b"256 extents, then a known one", full.read(0));
     row(b"256 extents, then another", known.read(MAX_EXTENTS as u32));
     let twice = after(SLOTS as u32, MAX_EXTENTS as u32);
-    let kept = row(b"256 extents twice, then another", twice.read(MAX_EXTENTS as u32));
+    let kept = row(
+        b"256 extents twice, then another",
+        twice.read(MAX_EXTENTS as u32),
+    );
     row(b"256 extents twice, then a known one", kept.read(0));
     let most = after(MAX_READS - 1, 1);
     let last = row(b"read 1,048,576", most.read(0));
