@@ -2,14 +2,17 @@
 use Prim.Native.Nat.{ℕ}
 use mathlib.Core.Path.{_≡_, refl, ap, _∙_}
 use mathlib.Core.List.{List, [], _∷_, _++_, map, append-assoc}
+use mathlib.Core.Bool.{false}
+use lib.Dec.{eqb}
 use lib.ListN.{length}
+use Rattle.reuse.specs.Limits.{maxReads}
 use Rattle.reuse.specs.Traces.{Within}
 use Rattle.reuse.proofs.Traces.{within-front}
 use Rattle.session.specs.declared.Session.{Session}
 use Rattle.session.specs.Sessions.{fresh}
 use Rattle.session.specs.Reads.{roomed, lookedAt, readOf, slotsLooked}
 use Rattle.session_traces.proofs.Stands.{Stands}
-use Rattle.session_traces.proofs.Read.{read-stands}
+use Rattle.session_traces.proofs.Read.{over, read-stands}
 use Rattle.session_traces.proofs.Looks.{trace-look, read-again}
 use Rattle.whole.specs.Runs.{sessionAfter, answersOf}
 use Rattle.whole.specs.Looks.{lookedAlong, Looked}
@@ -24,7 +27,12 @@ looked-along (x ∷ u) s t g w =
     ∙ ap {B = List ℕ} (λ l. length (lookedAt (roomed s) x) ∷ l)
     (looked-along u (readOf s x .session) (t ++ (x ∷ [])) (read-stands s t g x short few) (rw append-assoc w))
   where
+    -- no 8
+    short : eqb (length t) maxReads ≡ false
     short = within-reads t u x w
+
+    -- no 9
+    few : over t x ≡ false
     few = within-extents t u x w
 
 -- the session after one more call

@@ -17,7 +17,7 @@ same-length c = search needs
 
 returns : tie.Need-returns
 returns c =
-    let b = c .before .before .before .before in
+    let b = c .before .before .before .before .before in
     let h = b .read .ensures in
     let given = b .before .before .before .args in (
       read-back (c .read2 .result) _ (c .read2 .ok) (c .read2 .ensures .0 ∙ ap told (h .0)),
