@@ -21,7 +21,7 @@ returns c =
     let h = b .read .ensures in
     let given = b .before .before .before .args in (
       read-back (c .read2 .result) _ (c .read2 .ok) (c .read2 .ensures .0 ∙ ap told (h .0)),
-      (h .1, c .read2 .ensures .1 ∙ ap (λ a. sumsLeft a (given .sums .now)) (h .0), c .read2 .ensures .2 ∙ ap (λ a. slotsLeft a (given .slots .now)) (h .0)),
+      (h .1, (c .read2 .ensures .1 ∙ ap (λ a. sumsLeft a (given .sums .now)) (h .0), c .read2 .ensures .2 ∙ ap (λ a. slotsLeft a (given .slots .now)) (h .0))),
     )
 
 pub jemqolu-session-read-spec : {M : Type 1} → statement M
