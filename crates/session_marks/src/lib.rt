@@ -25,19 +25,19 @@ fn paired<'a>(slots: &'a [u32], sums: &'a [u32]) -> bool
 pub fn find<'a>(slots: &'a [u32], sums: &'a [u32], next: usize, x: u32) -> Found
     ensures { λ r. ⌜ r ≡ foundIn (now (slots .entry)) (now (sums .entry)) next x ⌝ }
 {
-    let mut looked: u32 = 0;
     if !paired(slots, sums) {
         return Found {
             slot: SLOTS,
-            looked,
+            looked: 0,
         };
     }
     if SLOTS < next {
         return Found {
             slot: SLOTS,
-            looked,
+            looked: 0,
         };
     }
+    let mut looked: u32 = 0;
     let mut i = next;
     while 0 < i {
         i = i - 1;
