@@ -74,20 +74,21 @@ static void print_listing(void) {
 /* The same log taken read by read, with a watch on a cache of two extents. */
 static void read_one_by_one(const uint32_t *log, size_t count) {
     static uint32_t session[JEMQOLU_SESSION_WORDS];
-    uint32_t watch[JEMQOLU_WATCH_WORDS], summary[JEMQOLU_SUMMARY_WORDS], sums_read = 0;
+    uint32_t watch[JEMQOLU_WATCH_WORDS], summary[JEMQOLU_SUMMARY_WORDS], sums_read = 0, slots_looked = 0;
     double share = 0;
     accepted(jemqolu_session_new(session, JEMQOLU_SESSION_WORDS), "session");
     accepted(jemqolu_watch_new(2, watch, JEMQOLU_WATCH_WORDS), "watch");
     for (size_t i = 0; i < count; i++) {
-        int64_t answer = jemqolu_session_read(session, JEMQOLU_SESSION_WORDS, log[i], &sums_read);
+        int64_t answer = jemqolu_session_read(session, JEMQOLU_SESSION_WORDS, log[i], &sums_read, &slots_looked);
         uint32_t word = (uint32_t)accepted(answer, "read");
         accepted(jemqolu_watch_read(watch, JEMQOLU_WATCH_WORDS, word), "watch");
         printf("read %" PRIu32 ": ", log[i]);
         if (word > JEMQOLU_COLD_BASE) {
-            printf("cold, extent number %" PRIu32 "\n", word - JEMQOLU_COLD_BASE);
+            printf("cold, extent number %" PRIu32, word - JEMQOLU_COLD_BASE);
         } else {
-            printf("distance %" PRIu32 "\n", word);
+            printf("distance %" PRIu32, word);
         }
+        printf("; slots looked at: %" PRIu32 "\n", slots_looked);
     }
     int64_t words = jemqolu_session_summary(session, JEMQOLU_SESSION_WORDS, summary, JEMQOLU_SUMMARY_WORDS);
     print_words("summary of the session", summary, accepted(words, "summary"));

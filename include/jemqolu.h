@@ -137,10 +137,14 @@ int64_t jemqolu_list(const uint8_t *text, size_t text_len, uint8_t *out, size_t 
 /* A new session. Lent: 2,049 words. Answer: 2,049. Refusal: -6. */
 int64_t jemqolu_session_new(uint32_t *session, size_t session_len);
 
-/* One more read. Lent: the session, which is changed there; one word for the number of sums that the read looked at,
- * 0 for a cold read. Answer: the reuse distance, or for a cold read JEMQOLU_COLD_BASE plus its number.
- * Refusals, in order: -7, -8, -9. */
-int64_t jemqolu_session_read(uint32_t *session, size_t session_len, uint32_t extent, uint32_t *sums_read);
+/* One more read. Where the next slot is 512, the v extents first move, in order, to the slots 0 to v - 1, and the next
+ * slot becomes v. The slots looked at are those from the one below the next slot down to the extent's own: 1 for the
+ * extent read last. A cold read looks at all below the next slot.
+ * Lent: the session, which is changed there; two words, both set by an accepted read: `*sums_read` to the number of sums
+ * read, 0 for a cold read, and `*slots_looked` to the number of slots looked at.
+ * Answer: the reuse distance, or for a cold read JEMQOLU_COLD_BASE plus its number. Refusals, in order: -7, -8, -9. */
+int64_t jemqolu_session_read(uint32_t *session, size_t session_len, uint32_t extent,
+                             uint32_t *sums_read, uint32_t *slots_looked);
 
 /* The summary of the reads accepted.
  * Lent: the session; `out`, as many words as the summary has. Answer: the words written. Refusals, in order: -7, -6. */

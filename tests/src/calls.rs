@@ -115,17 +115,18 @@ pub fn session_new(room: usize) -> Answer<Vec<u32>> {
 /// One more read of a session, which is changed there.
 #[track_caller]
 pub fn session_read(words: &mut [u32], extent: u32) -> Answer<Reading> {
-    let (mut session, mut sums_read) = (Lent::holding(words), Lent::<u32>::room(1));
-    let answer = ffi::session_read(session.cells_mut(), extent, &mut sums_read.cells_mut()[0]);
+    let (mut session, mut sums_read, mut slots_looked) = (Lent::holding(words), Lent::room(1), Lent::room(1));
+    let places = (&mut sums_read.cells_mut()[0], &mut slots_looked.cells_mut()[0]);
+    let answer = ffi::session_read(session.cells_mut(), extent, places.0, places.1);
     match answer {
         Ok(word) => {
-            let sums_read = sums_read.written(1)[0];
             words[..session::WORDS].copy_from_slice(session.written(session::WORDS));
-            Ok(Reading { word, sums_read })
+            Ok(Reading { word, sums_read: sums_read.written(1)[0], slots_looked: slots_looked.written(1)[0] })
         }
         Err(number) => {
             session.assert_kept();
             sums_read.assert_kept();
+            slots_looked.assert_kept();
             Err(number)
         }
     }

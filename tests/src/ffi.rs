@@ -44,7 +44,13 @@ mod raw {
         ) -> i64;
         pub fn jemqolu_list(text: *const u8, text_len: usize, out: *mut u8, out_len: usize) -> i64;
         pub fn jemqolu_session_new(session: *mut u32, session_len: usize) -> i64;
-        pub fn jemqolu_session_read(session: *mut u32, session_len: usize, extent: u32, sums_read: *mut u32) -> i64;
+        pub fn jemqolu_session_read(
+            session: *mut u32,
+            session_len: usize,
+            extent: u32,
+            sums_read: *mut u32,
+            slots_looked: *mut u32,
+        ) -> i64;
         pub fn jemqolu_session_summary(session: *const u32, session_len: usize, out: *mut u32, out_len: usize) -> i64;
         pub fn jemqolu_session_misses(session: *const u32, session_len: usize, size: u32) -> i64;
         pub fn jemqolu_session_share(session: *const u32, session_len: usize, size: u32, share: *mut f64) -> i64;
@@ -129,8 +135,8 @@ pub fn session_new(session: &mut [u32]) -> Answer<usize> {
 }
 
 /// One more read of a session; its word.
-pub fn session_read(session: &mut [u32], extent: u32, sums_read: &mut u32) -> Answer<usize> {
-    answer(unsafe { raw::jemqolu_session_read(session.as_mut_ptr(), session.len(), extent, sums_read) })
+pub fn session_read(session: &mut [u32], extent: u32, sums_read: &mut u32, slots_looked: &mut u32) -> Answer<usize> {
+    answer(unsafe { raw::jemqolu_session_read(session.as_mut_ptr(), session.len(), extent, sums_read, slots_looked) })
 }
 
 /// The summary of a session's reads; the words written.

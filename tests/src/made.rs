@@ -53,7 +53,7 @@ pub fn extents(random: &mut Random, count: usize) -> Vec<u32> {
 }
 
 /// A number below `bound`, the small ones more often.
-fn skewed(random: &mut Random, bound: usize) -> usize {
+pub fn skewed(random: &mut Random, bound: usize) -> usize {
     let bound = 1 + random.below(bound);
     let bound = 1 + random.below(bound);
     random.below(bound)

@@ -1,9 +1,10 @@
 //! The plain definitions among themselves: they are what the library is compared with.
 
 use jemqolu_tests::made;
+use jemqolu_tests::plain::session::Reading;
 use jemqolu_tests::plain::splits::{self, Customer};
 use jemqolu_tests::plain::trace::{self, Stack};
-use jemqolu_tests::plain::{cache, logs, plans, session, split_tables, summary};
+use jemqolu_tests::plain::{cache, last_slots, logs, plans, session, split_tables, summary, MAX_EXTENTS};
 use jemqolu_tests::random::Random;
 use jemqolu_tests::tally::Tally;
 
@@ -76,10 +77,28 @@ fn the_sums_on_the_way_up_are_the_marks_above() {
         assert!(session::sound(&words), "a made session is sound");
         let marks = session::marks(&words);
         for (place, slot) in marks.iter().enumerate() {
-            let reading = session::way_up(&words[session::SUMS], *slot);
             let zeros = (0..9).filter(|digit| slot >> digit & 1 == 0).count() as u32;
-            let wanted = session::Reading { word: marks.len() - place, sums_read: zeros };
-            tally.same(reading, wanted, &(&marks, slot));
+            let wanted = (marks.len() - place, zeros);
+            tally.same(session::way_up(&words[session::SUMS], *slot), wanted, &(&marks, slot));
+        }
+    }
+    tally.at_least(1500);
+}
+
+#[test]
+fn the_walk_down_looks_at_next_less_the_slot() {
+    let mut tally = Tally::new("slots on the walk down");
+    let mut random = Random::new(16);
+    for _ in 0..60 {
+        let words = made::session(&mut random);
+        let next = words[session::NEXT];
+        for slot in session::marks(&words) {
+            let wanted = (Some(slot), next - slot as u32);
+            tally.same(session::walk_down(&words, words[session::SLOT][slot]), wanted, &(next, slot));
+        }
+        let known = &words[session::FIRSTS][..session::marks(&words).len()];
+        for extent in [0, random.word(), random.word()].iter().filter(|extent| !known.contains(extent)) {
+            tally.same(session::walk_down(&words, *extent), (None, next), &(next, extent));
         }
     }
     tally.at_least(1500);
@@ -97,6 +116,20 @@ fn a_session_answers_as_the_stack_does() {
         tally.same(session::summary(&words), Ok(summary::of(&trace)), &trace);
     }
     tally.at_least(80);
+}
+
+#[test]
+fn a_session_answers_as_the_last_slots_do() {
+    let mut tally = Tally::new("sessions and the slots of the last reads");
+    let mut random = Random::new(17);
+    for round in 0..40 {
+        let most = [4, 40, MAX_EXTENTS][round % 3];
+        let trace = made::trace(&mut random, 3000, most);
+        let mut words = session::new();
+        let answers: Vec<Reading> = trace.iter().map(|extent| session::accept(&mut words, *extent)).collect();
+        tally.same(last_slots::readings(&trace), answers, &trace);
+    }
+    tally.at_least(40);
 }
 
 #[test]

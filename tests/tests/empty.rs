@@ -5,7 +5,7 @@ use jemqolu_tests::{ffi, refusal};
 
 #[test]
 fn a_slice_of_no_words_may_have_any_pointer() {
-    let (mut share, mut sums_read) = (2.5, 77);
+    let (mut share, mut sums_read, mut slots_looked) = (2.5, 77, 78);
     let mut out = [9; 3];
     assert_eq!(ffi::summarize(&[], &mut out), Ok(2));
     assert_eq!(out, [0, 0, 9]);
@@ -23,7 +23,7 @@ fn a_slice_of_no_words_may_have_any_pointer() {
     assert_eq!(ffi::split(0, &[1], &[0, 0], &mut []), Err(refusal::SHARES));
     assert_eq!(ffi::split(0, &[0], &[0, 0], &mut []), Err(refusal::ROOM));
     assert_eq!(ffi::session_new(&mut []), Err(refusal::ROOM));
-    assert_eq!(ffi::session_read(&mut [], 1, &mut sums_read), Err(refusal::STATE));
+    assert_eq!(ffi::session_read(&mut [], 1, &mut sums_read, &mut slots_looked), Err(refusal::STATE));
     assert_eq!(ffi::session_summary(&[], &mut []), Err(refusal::STATE));
     assert_eq!(ffi::session_summary(&session::new(), &mut []), Err(refusal::ROOM));
     assert_eq!(ffi::session_misses(&[], 1), Err(refusal::STATE));
@@ -34,7 +34,7 @@ fn a_slice_of_no_words_may_have_any_pointer() {
     assert_eq!(ffi::watch_read(&mut [], 1), Err(refusal::STATE));
     assert_eq!(ffi::watch_misses(&[]), Err(refusal::STATE));
     assert_eq!(ffi::watch_share(&[], &mut share), Err(refusal::STATE));
-    assert_eq!((share, sums_read), (2.5, 77));
+    assert_eq!((share, sums_read, slots_looked), (2.5, 77, 78));
 }
 
 #[test]

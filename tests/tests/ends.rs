@@ -84,10 +84,10 @@ fn sessions_and_watches() {
     for _ in 0..12 {
         let whole = made::session(&mut random);
         for len in (0..WORDS).step_by(31).chain([WORDS - 2, WORDS - 1]) {
-            let (mut words, mut sums_read, mut out) = (whole.clone(), 5, [3; 770]);
-            let answer = ffi::session_read(&mut words[..len], whole[1], &mut sums_read).map(|_| ());
+            let (mut words, mut sums_read, mut slots_looked, mut out) = (whole.clone(), 5, 6, [3; 770]);
+            let answer = ffi::session_read(&mut words[..len], whole[1], &mut sums_read, &mut slots_looked).map(|_| ());
             tally.same(answer, session::read(&mut whole[..len].to_vec(), whole[1]).map(|_| ()), &len);
-            tally.same(words == whole && sums_read == 5, true, &len);
+            tally.same((words == whole, sums_read, slots_looked), (true, 5, 6), &len);
             let answer = front(ffi::session_summary(&words[..len], &mut out), &out);
             tally.same(answer, session::summary(&whole[..len]), &len);
             let (misses, mut share) = (ffi::session_misses(&words[..len], 1).map(|misses| misses as u64), 0.0);

@@ -18,7 +18,8 @@ const CALLS: [&str; 17] = [
      uint32_t *work, size_t work_len, uint32_t *out, size_t out_len)",
     "jemqolu_list(const uint8_t *text, size_t text_len, uint8_t *out, size_t out_len)",
     "jemqolu_session_new(uint32_t *session, size_t session_len)",
-    "jemqolu_session_read(uint32_t *session, size_t session_len, uint32_t extent, uint32_t *sums_read)",
+    "jemqolu_session_read(uint32_t *session, size_t session_len, uint32_t extent, \
+     uint32_t *sums_read, uint32_t *slots_looked)",
     "jemqolu_session_summary(const uint32_t *session, size_t session_len, uint32_t *out, size_t out_len)",
     "jemqolu_session_misses(const uint32_t *session, size_t session_len, uint32_t size)",
     "jemqolu_session_share(const uint32_t *session, size_t session_len, uint32_t size, double *share)",

@@ -160,22 +160,27 @@ fn a_session_of_all_reads() {
     let extents = made::extents(&mut random, 6);
     let mut trace = made::trace_over(&mut random, &extents, MOST - 6);
     trace.extend(&extents);
-    let (mut session, mut sums_read) = (Lent::<u32>::room(WORDS + 1), Lent::<u32>::room(1));
+    let (mut session, mut sums_read, mut slots_looked) = (Lent::<u32>::room(WORDS + 1), Lent::room(1), Lent::room(1));
     tally.same(ffi::session_new(session.cells_mut()), Ok(WORDS), &MOST);
     let mut wanted = session::new();
     for extent in &trace {
-        let word = ffi::session_read(session.cells_mut(), *extent, &mut sums_read.cells_mut()[0]);
-        let got = word.map(|word| Reading { word, sums_read: sums_read.written(1)[0] });
+        let places = (&mut sums_read.cells_mut()[0], &mut slots_looked.cells_mut()[0]);
+        let word = ffi::session_read(session.cells_mut(), *extent, places.0, places.1);
+        let (sums_read, slots_looked) = (sums_read.written(1)[0], slots_looked.written(1)[0]);
+        let got = word.map(|word| Reading { word, sums_read, slots_looked });
         tally.same(got, Ok(session::accept(&mut wanted, *extent)), &extent);
         assert!(session.written(WORDS) == wanted, "the session's words");
     }
     session.settle();
     sums_read.settle();
+    slots_looked.settle();
     for extent in [trace[0], extents[0] ^ 1] {
-        let refused = ffi::session_read(session.cells_mut(), extent, &mut sums_read.cells_mut()[0]);
+        let places = (&mut sums_read.cells_mut()[0], &mut slots_looked.cells_mut()[0]);
+        let refused = ffi::session_read(session.cells_mut(), extent, places.0, places.1);
         tally.same(refused, Err(refusal::READS), &extent);
         session.assert_kept();
         sums_read.assert_kept();
+        slots_looked.assert_kept();
     }
     let distances = Stack(Vec::new()).distances(&trace);
     let summary = calls::session_summary(session.cells(), 770);

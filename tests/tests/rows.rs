@@ -1,5 +1,5 @@
-//! The requirements' own examples: every row of 'Sessions to try', the numbers of cold reads, the sample texts, and the
-//! four quiet wrong joins.
+//! The requirements' own examples: every row of 'Sessions to try', the numbers of cold reads, the slots looked at, the
+//! sample texts, and the four quiet wrong joins.
 
 use jemqolu_tests::plain::session::{Reading, READS, WORDS};
 use jemqolu_tests::plain::COLD_BASE;
@@ -20,15 +20,16 @@ fn read_all(trace: &[u32]) -> (Vec<u32>, Vec<Answer<Reading>>) {
 }
 
 /// An accepted read.
-fn reading(word: u32, sums_read: u32) -> Answer<Reading> {
-    Ok(Reading { word: word as usize, sums_read })
+fn reading(word: u32, sums_read: u32, slots_looked: u32) -> Answer<Reading> {
+    Ok(Reading { word: word as usize, sums_read, slots_looked })
 }
 
 #[test]
 fn the_seven_reads() {
     let (session, answers) = read_all(&SEVEN);
-    let wanted = [(COLD_BASE + 1, 0), (COLD_BASE + 2, 0), (2, 9), (COLD_BASE + 3, 0), (3, 8), (1, 8), (2, 7)];
-    assert_eq!(answers, wanted.map(|(word, sums_read)| reading(word, sums_read)));
+    let (sums_read, slots_looked) = ([0, 0, 9, 0, 8, 8, 7], [0, 1, 2, 3, 3, 1, 3]);
+    let wanted = |read: usize| reading(SEVEN_WORDS[read], sums_read[read], slots_looked[read]);
+    assert_eq!(answers, [0, 1, 2, 3, 4, 5, 6].map(wanted));
     assert_eq!(calls::session_summary(&session, 11), Ok(SUMMARY.to_vec()));
     assert_eq!(calls::distances(&[0, 0], &SEVEN, 7), Ok(SEVEN_WORDS.to_vec()));
 }
@@ -38,7 +39,7 @@ fn a_number_counts_the_extents_of_the_prefix_too() {
     // after 7 3 7 9 the extent 8 is the fourth
     assert_eq!(calls::distances(&FRONT, &[3, 3, 9, 8], 4), Ok(vec![3, 1, 2, 65_540]));
     let (_, answers) = read_all(&[7, 3, 7, 9, 3, 3, 9, 8]);
-    assert_eq!(answers[7], reading(65_540, 0));
+    assert_eq!(answers[7], reading(65_540, 0, 7));
     // no log has these words: 4 6 would have R 6 4
     assert_eq!(calls::distances(&[2, 2, 4, 6, 4, 6, 0, 0], &[6, 9], 2), Ok(vec![2, 65_539]));
 }
@@ -81,18 +82,19 @@ fn the_misses_and_the_shares() {
 #[test]
 fn one_extent_at_read_512_and_513() {
     let (_, answers) = read_all(&[5; 513]);
-    assert_eq!(answers[511], reading(1, 1));
-    assert_eq!(answers[512], reading(1, 9));
+    assert_eq!(answers[511], reading(1, 1, 1));
+    assert_eq!(answers[512], reading(1, 9, 1));
 }
 
 #[test]
 fn the_256_extents_and_another() {
     let extents: Vec<u32> = (0..256).collect();
     let (mut session, answers) = read_all(&extents);
-    assert_eq!(answers, (1..=256).map(|number| reading(COLD_BASE + number, 0)).collect::<Vec<Answer<Reading>>>());
-    assert_eq!(answers[255], reading(65_792, 0));
+    let wanted = (1..=256).map(|number| reading(COLD_BASE + number, 0, number - 1));
+    assert_eq!(answers, wanted.collect::<Vec<Answer<Reading>>>());
+    assert_eq!(answers[255], reading(65_792, 0, 255));
     assert_eq!(calls::session_read(&mut session, 256), Err(refusal::EXTENTS));
-    assert_eq!(calls::session_read(&mut session, 0), reading(256, 9));
+    assert_eq!(calls::session_read(&mut session, 0), reading(256, 9, 256));
     assert_eq!(calls::session_read(&mut session, 256), Err(refusal::EXTENTS));
 }
 
@@ -101,7 +103,7 @@ fn read_1048576_and_the_next() {
     let mut random = Random::new(1);
     let mut session = made::session_over(&mut random, &[5], 1_048_574, 1);
     assert_eq!(session[READS], 1_048_575);
-    assert_eq!(calls::session_read(&mut session, 5), reading(1, 9));
+    assert_eq!(calls::session_read(&mut session, 5), reading(1, 9, 1));
     assert_eq!(session[READS], 1_048_576);
     assert_eq!(calls::session_read(&mut session, 5), Err(refusal::READS));
 }

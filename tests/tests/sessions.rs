@@ -98,7 +98,8 @@ fn every_slot_of_the_tree() {
         words[NEXT] = slot as u32 + 1;
         let next = if slot + 1 == SLOTS { 0 } else { slot };
         let zeros = (0..9).filter(|digit| next >> digit & 1 == 0).count() as u32;
-        tally.same(calls::session_read(&mut words.clone(), 5), Ok(Reading { word: 1, sums_read: zeros }), &slot);
+        let wanted = Reading { word: 1, sums_read: zeros, slots_looked: 1 };
+        tally.same(calls::session_read(&mut words.clone(), 5), Ok(wanted), &slot);
         step(&mut tally, &mut words, 5);
     }
     tally.at_least(1500);
@@ -195,6 +196,7 @@ fn refusals_in_order() {
         words
     };
     let most = MAX_READS as usize;
+    let accepted = Reading { word: COLD_BASE as usize + MAX_EXTENTS, sums_read: 0, slots_looked: 300 };
     for (known, reads, damaged, wanted) in [
         (&known[..], most, true, Err(refusal::STATE)),
         (&known[..], most - 1, true, Err(refusal::STATE)),
@@ -202,7 +204,7 @@ fn refusals_in_order() {
         (&known[..], most, false, Err(refusal::READS)),
         (&known[..1], most, false, Err(refusal::READS)),
         (&known[..], most - 1, false, Err(refusal::EXTENTS)),
-        (&known[..255], most - 1, false, Ok(Reading { word: COLD_BASE as usize + MAX_EXTENTS, sums_read: 0 })),
+        (&known[..255], most - 1, false, Ok(accepted)),
     ] {
         let mut words = session(known, reads, damaged);
         let wanted_summary = if damaged { Err(refusal::STATE) } else { Err(refusal::ROOM) };

@@ -78,9 +78,10 @@ fn texts() {
 
 #[test]
 fn sessions() {
-    let (mut words, mut out, mut sums_read, mut share) = (session::new(), [0; 770], 0, 0.0);
+    let (mut words, mut out, mut share) = (session::new(), [0; 770], 0.0);
+    let (mut sums_read, mut slots_looked) = (0, 0);
     assert_eq!(with_little_stack(|| ffi::session_new(&mut words)), Ok(session::WORDS));
-    let mut read = |_: usize, extent: &u32| ffi::session_read(&mut words, *extent, &mut sums_read);
+    let mut read = |_: usize, extent: &u32| ffi::session_read(&mut words, *extent, &mut sums_read, &mut slots_looked);
     assert!(with_little_stack(|| long_trace()[..2000].iter().try_fold(0, &mut read)).is_ok());
     assert_eq!(with_little_stack(|| ffi::session_summary(&words, &mut out)), Ok(770));
     assert!(with_little_stack(|| ffi::session_misses(&words, 9)).is_ok());

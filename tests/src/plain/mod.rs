@@ -1,6 +1,7 @@
 //! The definitions as plain code: slow, short, and written from the requirements alone.
 
 pub mod cache;
+pub mod last_slots;
 pub mod logs;
 pub mod plans;
 pub mod session;

@@ -23,12 +23,13 @@ pub const SUMS: Range<usize> = 1025..2048;
 /// Where the next slot stands.
 pub const NEXT: usize = 2048;
 
-/// What a read answers: its word, which is its distance or for a cold read COLD_BASE plus its number, and the number of
-/// sums that it looked at.
+/// What a read answers: its word, which is its distance or for a cold read COLD_BASE plus its number, the number of sums
+/// read, and the number of slots looked at.
 #[derive(Clone, Copy, PartialEq, Eq, Debug)]
 pub struct Reading {
     pub word: usize,
     pub sums_read: u32,
+    pub slots_looked: u32,
 }
 
 /// A new session.
@@ -134,8 +135,23 @@ fn gather(words: &mut [u32]) {
     words[NEXT] = extents.len() as u32;
 }
 
-/// The way up from a marked slot: the sums of right-hand neighbours wherever it leaves a left child.
-pub fn way_up(sums: &[u32], slot: usize) -> Reading {
+/// The walk from the slot below next down, to the extent's mark or past slot 0: the mark's slot, where there is one, and
+/// the number of slots looked at.
+pub fn walk_down(words: &[u32], extent: u32) -> (Option<usize>, u32) {
+    let (mut slot, mut slots_looked) = (words[NEXT] as usize, 0);
+    while slot > 0 {
+        slot -= 1;
+        slots_looked += 1;
+        if words[SUMS][slot] == 1 && words[SLOT][slot] == extent {
+            return (Some(slot), slots_looked);
+        }
+    }
+    (None, slots_looked)
+}
+
+/// The way up from a marked slot, by the sums of right-hand neighbours wherever it leaves a left child: the distance, and
+/// the number of sums read.
+pub fn way_up(sums: &[u32], slot: usize) -> (usize, u32) {
     let (mut place, mut total, mut sums_read) = (slot, 0, 0);
     while place != SUMS.len() - 1 {
         if place % 2 == 0 {
@@ -144,7 +160,7 @@ pub fn way_up(sums: &[u32], slot: usize) -> Reading {
         }
         place = parent(place);
     }
-    Reading { word: 1 + total, sums_read }
+    (1 + total, sums_read)
 }
 
 /// A read that a sound session accepts.
@@ -153,25 +169,25 @@ pub fn accept(words: &mut [u32], extent: u32) -> Reading {
         gather(words);
         resum(words);
     }
-    let mark = marks(words).into_iter().find(|slot| words[SLOT][*slot] == extent);
-    let reading = match mark {
+    let (mark, slots_looked) = walk_down(words, extent);
+    let (word, sums_read) = match mark {
         Some(slot) => {
-            let reading = way_up(&words[SUMS], slot);
+            let (distance, sums_read) = way_up(&words[SUMS], slot);
             put(words, slot, 0, 0);
-            words[COUNTS][reading.word - 1] += 1;
-            reading
+            words[COUNTS][distance - 1] += 1;
+            (distance, sums_read)
         }
         None => {
             let v = marks(words).len();
             words[FIRSTS][v] = extent;
-            Reading { word: COLD_BASE as usize + v + 1, sums_read: 0 }
+            (COLD_BASE as usize + v + 1, 0)
         }
     };
     put(words, words[NEXT] as usize, extent, 1);
     resum(words);
     words[NEXT] += 1;
     words[READS] += 1;
-    reading
+    Reading { word, sums_read, slots_looked }
 }
 
 /// The call for one more read; a refusal leaves the session as it was.

@@ -1,0 +1,333 @@
+//! The slots looked at: from the slot below next down to the extent's mark, or all of them for a cold read.
+
+use jemqolu_tests::plain::session::{self, Reading, COUNTS, FIRSTS, NEXT, READS, SLOT, SLOTS, SUMS, WORDS};
+use jemqolu_tests::plain::{last_slots, trace, COLD_BASE, MAX_EXTENTS, MAX_READS};
+use jemqolu_tests::random::Random;
+use jemqolu_tests::tally::Tally;
+use jemqolu_tests::{calls, ffi, made, refusal, Answer};
+
+/// The kinds of long logs.
+const KINDS: usize = 10;
+/// The reads of each long log.
+const LONG: usize = 12_000;
+/// What may stand in the places for the sums read and the slots looked at before a read.
+const PLACES: [[u32; 2]; 4] = [[77, 78], [0, 0], [u32::MAX, 1], [1, u32::MAX]];
+
+/// Which of 256 extents a read of a long log is of. The kinds: one extent, 3, 40 or 256 of them at random, skewed, a scan
+/// of 256 or of 255, a scan there and back, one extent more every 37 reads, or in phases.
+fn place(random: &mut Random, kind: usize, read: usize) -> usize {
+    match kind {
+        0 => 0,
+        1 => random.below(3),
+        2 => random.below(40),
+        3 => random.below(MAX_EXTENTS),
+        4 => made::skewed(random, MAX_EXTENTS),
+        5 => read % 256,
+        6 => read % 255,
+        7 => (read % 510).min(510 - read % 510),
+        8 => random.below((1 + read / 37).min(MAX_EXTENTS)),
+        _ => (read / 700 * 31 + random.below(9)) % MAX_EXTENTS,
+    }
+}
+
+/// A long log of each kind.
+fn long_logs() -> Vec<Vec<u32>> {
+    let mut random = Random::new(181);
+    let log = |kind: usize| {
+        let extents = made::extents(&mut random, MAX_EXTENTS);
+        (0..LONG).map(|read| extents[place(&mut random, kind, read)]).collect()
+    };
+    (0..KINDS).map(log).collect()
+}
+
+/// A read's answer, and the next slot that it found after any move of the marks.
+struct Found {
+    reading: Reading,
+    next: u32,
+}
+
+/// The session that has read a log, from a new one, and what each read found.
+fn read_all(reads: &[u32]) -> (Vec<u32>, Vec<Found>) {
+    let mut words = calls::session_new(WORDS).expect("a new session");
+    let read = |extent: &u32| {
+        let reading = calls::session_read(&mut words, *extent).expect("a read within the limits");
+        Found { reading, next: words[NEXT] - 1 }
+    };
+    let found = reads.iter().map(read).collect();
+    (words, found)
+}
+
+/// Whether the marks moved before a read.
+fn moved(found: &[Found], read: usize) -> bool {
+    read > 0 && found[read].next < found[read - 1].next
+}
+
+/// The zeros of a slot's number in nine binary digits.
+fn zeros(slot: usize) -> u32 {
+    format!("{slot:09b}").matches('0').count() as u32
+}
+
+/// A read with these words in the two places, which stand side by side: its answer, and what they hold after it.
+fn read_into(words: &mut [u32], extent: u32, places: [u32; 2]) -> (Answer<usize>, [u32; 2]) {
+    let mut places = places;
+    let [sums_read, slots_looked] = &mut places;
+    (ffi::session_read(words, extent, sums_read, slots_looked), places)
+}
+
+#[test]
+fn long_logs_by_the_log_alone() {
+    let mut tally = Tally::new("answers of long logs by the log alone");
+    let mut moves = Vec::new();
+    for (kind, reads) in long_logs().iter().enumerate() {
+        let (_, found) = read_all(reads);
+        for (read, wanted) in last_slots::readings(reads).into_iter().enumerate() {
+            tally.same(found[read].reading, wanted, &(kind, read, reads[read]));
+        }
+        moves.push((0..LONG).filter(|read| moved(&found, *read)).count());
+    }
+    let (fewest, all) = (moves.iter().min(), moves.iter().sum::<usize>());
+    assert!(fewest >= Some(&20) && all >= 300, "{moves:?} moves of the marks");
+    tally.at_least((KINDS * LONG) as u64);
+}
+
+/// The slots looked at, counted on the reads. Where the marks have not moved since the extent's previous read, each read
+/// from that one on has set one mark. Where they have, the marks that moved and stood no lower than the extent's are those
+/// of the different extents from its previous read up to the move. A cold read looks at the slots of all.
+fn counted(reads: &[u32]) -> Vec<u32> {
+    let (mut last_move, mut gathered) = (0, 0);
+    let mut counts = Vec::new();
+    for (read, extent) in reads.iter().enumerate() {
+        if gathered + read - last_move == SLOTS {
+            (last_move, gathered) = (read, trace::different(&reads[..read]));
+        }
+        let count = match reads[..read].iter().rposition(|other| other == extent) {
+            Some(previous) if previous >= last_move => read - previous,
+            Some(previous) => read - last_move + trace::different(&reads[previous..last_move]),
+            None => read - last_move + gathered,
+        };
+        counts.push(count as u32);
+    }
+    counts
+}
+
+#[test]
+fn long_logs_counted_on_the_reads() {
+    let mut tally = Tally::new("slots looked at, counted on the reads");
+    for (kind, reads) in long_logs().iter().enumerate() {
+        let (_, found) = read_all(reads);
+        for (read, wanted) in counted(reads).into_iter().enumerate() {
+            tally.same(found[read].reading.slots_looked, wanted, &(kind, read, reads[read]));
+        }
+    }
+    tally.at_least((KINDS * LONG) as u64);
+}
+
+#[test]
+fn long_logs_and_the_plain_session() {
+    let mut tally = Tally::new("distances, numbers, sums read and words of long logs");
+    for (kind, reads) in long_logs().iter().enumerate() {
+        let (mut words, mut wanted) = (calls::session_new(WORDS).expect("a new session"), session::new());
+        let distances = calls::distances(&[0, 0], reads, LONG).expect("a trace within the limits");
+        for (read, extent) in reads.iter().enumerate() {
+            let got = calls::session_read(&mut words, *extent).expect("a read within the limits");
+            let plain = session::accept(&mut wanted, *extent);
+            tally.same((got.word, got.sums_read), (plain.word, plain.sums_read), &(kind, read));
+            tally.same(got.word as u32, distances[read], &(kind, read));
+            tally.same(words == wanted, true, &(kind, read));
+        }
+    }
+    tally.at_least((3 * KINDS * LONG) as u64);
+}
+
+#[test]
+fn laws_of_long_logs() {
+    let mut tally = Tally::new("laws of the slots looked at");
+    let (mut cold, mut again, mut again_moved, mut any_moved) = (0, 0, 0, 0);
+    for (kind, reads) in long_logs().iter().enumerate() {
+        let (_, found) = read_all(reads);
+        for (read, Found { reading, next }) in found.iter().enumerate() {
+            let (slots_looked, context) = (reading.slots_looked, (kind, read, reading, next));
+            tally.same(slots_looked <= *next && *next < SLOTS as u32, true, &context);
+            if trace::is_cold(reading.word as u32) {
+                cold += 1;
+                tally.same(slots_looked, *next, &context);
+                continue;
+            }
+            tally.same(slots_looked as usize >= reading.word, true, &context);
+            if moved(&found, read) {
+                any_moved += 1;
+                tally.same(slots_looked as usize, reading.word, &context);
+            }
+            if reads[read] == reads[read - 1] {
+                again += 1;
+                again_moved += u32::from(moved(&found, read));
+                tally.same(slots_looked, 1, &context);
+            }
+        }
+    }
+    let seen = (cold, again, again_moved, any_moved);
+    assert!(cold >= 1500 && again >= 15_000 && again_moved >= 30 && any_moved >= 300, "{seen:?}");
+    tally.at_least((2 * KINDS * LONG + 15_000) as u64);
+}
+
+#[test]
+fn one_extent_across_moves_of_the_marks() {
+    let mut tally = Tally::new("one extent read often");
+    let (_, found) = read_all(&[5; 1600]);
+    let at = |read: usize| (found[read - 1].reading, found[read - 1].next);
+    let warm = |sums_read: u32| Reading { word: 1, sums_read, slots_looked: 1 };
+    tally.same(at(1), (Reading { word: COLD_BASE as usize + 1, sums_read: 0, slots_looked: 0 }, 0), &1);
+    // the marks move before the reads 513, 1,024 and 1,535
+    for reads in [2..=512, 513..=1023, 1024..=1534, 1535..=1600] {
+        for (read, next) in reads.zip(1..) {
+            tally.same(at(read), (warm(zeros(next as usize - 1)), next), &read);
+        }
+    }
+    tally.same(at(512), (warm(1), 511), &512);
+    tally.same(at(513), (warm(9), 1), &513);
+    tally.at_least(1602);
+}
+
+#[test]
+fn every_extent_straight_after_the_marks_moved() {
+    let mut tally = Tally::new("reads of every extent straight after the marks moved");
+    for v in 1..=MAX_EXTENTS {
+        let (words, _) = read_all(&(0..SLOTS).map(|read| (read % v) as u32).collect::<Vec<u32>>());
+        assert_eq!(words[NEXT], 512, "the marks move before the next read");
+        for distance in 1..=v {
+            let extent = (SLOTS - distance) % v;
+            let wanted = Reading { word: distance, sums_read: zeros(v - distance), slots_looked: distance as u32 };
+            tally.same(calls::session_read(&mut words.clone(), extent as u32), Ok(wanted), &(v, distance));
+        }
+        let cold = Reading { word: COLD_BASE as usize + v + 1, sums_read: 0, slots_looked: v as u32 };
+        let wanted = if v == MAX_EXTENTS { Err(refusal::EXTENTS) } else { Ok(cold) };
+        tally.same(calls::session_read(&mut words.clone(), 1000), wanted, &v);
+    }
+    tally.at_least(33_000);
+}
+
+#[test]
+fn every_slot_below_every_next() {
+    let mut tally = Tally::new("one mark in every slot below every next");
+    for slot in 0..SLOTS {
+        // the slots without a mark hold 0, which is an extent too
+        let (extent, another) = if slot % 2 == 0 { (0, 5) } else { (5, 0) };
+        let mut words = session::new();
+        (words[READS], words[FIRSTS.start], words[COUNTS.start]) = (4, extent, 3);
+        (words[SLOT.start + slot], words[SUMS.start + slot]) = (extent, 1);
+        session::resum(&mut words);
+        for next in slot + 1..=SLOTS {
+            words[NEXT] = next as u32;
+            let (slot, next) = if next == SLOTS { (0, 1) } else { (slot, next) };
+            let wanted = Reading { word: 1, sums_read: zeros(slot), slots_looked: (next - slot) as u32 };
+            tally.same(calls::session_read(&mut words.clone(), extent), Ok(wanted), &(slot, next));
+            let wanted = Reading { word: COLD_BASE as usize + 2, sums_read: 0, slots_looked: next as u32 };
+            tally.same(calls::session_read(&mut words.clone(), another), Ok(wanted), &(slot, next));
+        }
+    }
+    tally.at_least(262_656);
+}
+
+#[test]
+fn at_256_extents_where_the_marks_move_next() {
+    let mut tally = Tally::new("256 extents and the marks about to move");
+    let mut random = Random::new(182);
+    let extents = made::extents(&mut random, MAX_EXTENTS + 1);
+    let (another, known) = extents.split_last().expect("257 extents");
+    let reads = [known, &made::trace_over(&mut random, known, MAX_EXTENTS)].concat();
+    let (mut words, _) = read_all(&reads);
+    assert_eq!(words[NEXT], 512, "the marks move before the next read");
+    let before = words.clone();
+    for places in PLACES {
+        tally.same(read_into(&mut words, *another, places), (Err(refusal::EXTENTS), places), &places);
+        tally.same(words == before, true, &places);
+    }
+    for (extent, distance) in trace::recents(&reads).into_iter().zip(1..) {
+        let mut words = before.clone();
+        let sums_read = zeros(MAX_EXTENTS - distance);
+        let wanted = Reading { word: distance, sums_read, slots_looked: distance as u32 };
+        tally.same(calls::session_read(&mut words, extent), Ok(wanted), &distance);
+        tally.same(words[NEXT], 257, &distance);
+        let wanted = Reading { word: 1, sums_read: zeros(256), slots_looked: 1 };
+        tally.same(calls::session_read(&mut words, extent), Ok(wanted), &distance);
+    }
+    tally.at_least(776);
+}
+
+#[test]
+fn refusals_leave_both_places() {
+    let mut tally = Tally::new("refused reads and what was lent to them");
+    let mut random = Random::new(183);
+    let (known, another): (Vec<u32>, u32) = ((0..256).collect(), 256);
+    let most = MAX_READS as usize;
+    for (damaged, reads, extents, wanted) in [
+        (true, 900, 3, refusal::STATE),
+        (false, most, 3, refusal::READS),
+        (false, 900, 256, refusal::EXTENTS),
+        (true, most, 3, refusal::STATE),
+        (true, 900, 256, refusal::STATE),
+        (false, most, 256, refusal::READS),
+        (true, most, 256, refusal::STATE),
+    ] {
+        for (next, places) in [256, 300, 511, 512].into_iter().flat_map(|next| PLACES.map(|places| (next, places))) {
+            let mut words = made::session_over(&mut random, &known[..extents], reads - extents, next);
+            words[SUMS.end - 1] ^= u32::from(damaged);
+            let before = words.clone();
+            // a known extent is refused too, but for 9
+            let read = if wanted == refusal::EXTENTS { vec![another] } else { vec![another, 1] };
+            for extent in read {
+                let context = (damaged, reads, extents, next, extent);
+                tally.same(read_into(&mut words, extent, places), (Err(wanted), places), &context);
+                tally.same(words == before, true, &context);
+            }
+        }
+    }
+    tally.at_least(416);
+}
+
+#[test]
+fn accepted_reads_set_both_places() {
+    let mut tally = Tally::new("accepted reads and the places lent to them");
+    let reads = [7, 3, 7, 9, 3, 3, 9];
+    let (sums_read, slots_looked) = ([0, 0, 9, 0, 8, 8, 7], [0, 1, 2, 3, 3, 1, 3]);
+    for places in PLACES {
+        let (mut words, mut other) = (session::new(), session::new());
+        for (read, extent) in reads.into_iter().enumerate() {
+            let (answer, held) = read_into(&mut words, extent, places);
+            tally.same((answer.is_ok(), held), (true, [sums_read[read], slots_looked[read]]), &(read, places));
+            let mut turned = places;
+            let [second, first] = &mut turned;
+            let answer = ffi::session_read(&mut other, extent, first, second);
+            tally.same((answer.is_ok(), turned), (true, [slots_looked[read], sums_read[read]]), &(read, places));
+        }
+        tally.same(&words, &other, &places);
+    }
+    tally.at_least(60);
+}
+
+#[test]
+fn refused_reads_are_not_counted() {
+    let mut tally = Tally::new("slots looked at with refused reads between");
+    let mut random = Random::new(184);
+    let pool = made::extents(&mut random, 300);
+    let mut words = calls::session_new(WORDS).expect("a new session");
+    let (mut accepted, mut answers, mut at_512) = (Vec::new(), Vec::new(), 0);
+    for _ in 0..20_000 {
+        let (extent, next) = (random.of(&pool), words[NEXT]);
+        match calls::session_read(&mut words, extent) {
+            Ok(reading) => {
+                accepted.push(extent);
+                answers.push(reading);
+            }
+            Err(number) => {
+                tally.same(number, refusal::EXTENTS, &extent);
+                at_512 += u32::from(next == 512);
+            }
+        }
+    }
+    assert!(at_512 >= 5, "{at_512} reads refused where the marks move before the next");
+    for (read, wanted) in last_slots::readings(&accepted).into_iter().enumerate() {
+        tally.same(answers[read], wanted, &(read, accepted[read]));
+    }
+    tally.at_least(20_000);
+}
