@@ -61,10 +61,10 @@ Words new_session() {
     return session;
 }
 
-uint32_t session_read(Words &session, uint32_t extent) {
-    uint32_t sums_read = 0;
-    int64_t answer = jemqolu_session_read(session.data(), session.size(), extent, &sums_read);
-    return static_cast<uint32_t>(accepted(answer, "jemqolu_session_read"));
+Reading session_read(Words &session, uint32_t extent) {
+    uint32_t sums_read = 0, slots_looked = 0;
+    int64_t answer = jemqolu_session_read(session.data(), session.size(), extent, &sums_read, &slots_looked);
+    return {static_cast<uint32_t>(accepted(answer, "jemqolu_session_read")), slots_looked};
 }
 
 Words session_summary(const Words &session) {

@@ -21,7 +21,13 @@ Words summaries_of(size_t customers, size_t reads);
 // Fills `shares` from its front, a word for each least share, and answers the misses in all.
 uint32_t split(uint32_t store, const Words &leasts, const Words &summaries, Words &shares);
 
+// A read's word, and the number of slots looked at.
+struct Reading {
+    uint32_t word;
+    uint32_t slots_looked;
+};
+
 // A session, one read of it, and its summary.
 Words new_session();
-uint32_t session_read(Words &session, uint32_t extent);
+Reading session_read(Words &session, uint32_t extent);
 Words session_summary(const Words &session);

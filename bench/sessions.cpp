@@ -2,41 +2,81 @@
 #include "ours.hpp"
 #include "tables.hpp"
 #include "tasks.hpp"
+#include <map>
 
 static const size_t READS = 50000;
+static const uint32_t SLOTS = 512;
 
-// A session before the reads that are timed, and those reads.
+// The reads before those that are timed, from a new session, and the timed ones.
 struct Case {
     std::string name;
-    Words session;
+    Words before;
     Words reads;
 };
 
-// A session that has read each of so many extents once, then reads of them in no order.
+// Each of so many extents once, then reads of them in no order.
 static Case known_extents(size_t extents) {
-    Words session = new_session();
-    for (uint32_t extent : extents_of(extents, 1)) session_read(session, extent);
-    std::string name = "uniform over " + std::to_string(extents) + ", all known";
-    return {name, session, trace_of(Kind::uniform, READS, extents, 1)};
+    return {"uniform over " + std::to_string(extents) + ", all known", extents_of(extents, 1),
+            trace_of(Kind::uniform, READS, extents, 1)};
 }
 
 static Case from_new(Kind kind) {
-    return {std::string(name_of(kind)) + " over 256, from a new session", new_session(),
-            trace_of(kind, READS, 256, 1)};
+    return {std::string(name_of(kind)) + " over 256, from a new session", {}, trace_of(kind, READS, 256, 1)};
+}
+
+// The slot of each extent's last read.
+using Marks = std::map<uint32_t, uint32_t>;
+
+// Moves the marks, in order, to the slots from 0 on, and answers how many there are.
+static uint32_t gather(Marks &marks) {
+    std::map<uint32_t, uint32_t *> in_order;
+    for (auto &[extent, slot] : marks) in_order[slot] = &slot;
+    uint32_t count = 0;
+    for (auto &[slot, place] : in_order) *place = count++;
+    return count;
+}
+
+// The slots looked at by each read of a log, by the log alone.
+static Words slots_looked_of(const Words &log) {
+    Marks marks;
+    uint32_t next = 0;
+    Words looked;
+    for (uint32_t extent : log) {
+        if (next == SLOTS) next = gather(marks);
+        auto mark = marks.find(extent);
+        looked.push_back(mark == marks.end() ? next : next - mark->second);
+        marks[extent] = next++;
+    }
+    return looked;
+}
+
+static Words session_of(const Words &log) {
+    Words session = new_session();
+    for (uint32_t extent : log) session_read(session, extent);
+    return session;
+}
+
+// Every read, those before too, looks at as many slots as the log alone says.
+static void compare_slots_looked(const Case &one) {
+    Words log = one.before;
+    log.insert(log.end(), one.reads.begin(), one.reads.end());
+    Words session = new_session(), looked;
+    for (uint32_t extent : log) looked.push_back(session_read(session, extent).slots_looked);
+    demand(looked == slots_looked_of(log), one.name + ": a read looks at another number of slots");
 }
 
 static void row(const Case &one) {
-    Words prefix = session_summary(one.session);
-    Words session;
+    Words before = session_of(one.before), prefix = session_summary(before), session;
     Contestant reading = {"session", [&](Words &out) {
-                              for (size_t i = 0; i < READS; i++) out[i] = session_read(session, one.reads[i]);
+                              for (size_t i = 0; i < READS; i++) out[i] = session_read(session, one.reads[i]).word;
                           }};
-    reading.prepare = [&] { session = one.session; };
+    reading.prepare = [&] { session = before; };
     Contestant batch = {"batch", [&](Words &out) { distances(prefix, one.reads, out); }};
     std::vector<Time> times = timed("session, " + one.name, READS, {reading, batch});
     Words joined(JEMQOLU_SUMMARY_WORDS);
     joined.resize(join(prefix, summary_of(one.reads), joined));
     demand(session_summary(session) == joined, one.name + ": the session's summary is another");
+    compare_slots_looked(one);
     double unit = 1e6 / static_cast<double>(READS);
     print_row({one.name, number(times[0].least * unit), number(times[1].least * unit),
                number(times[0].least / times[1].least), spread(times)});

@@ -120,7 +120,7 @@ def _load(library):
         "plan": lent + lent + lent + lent,
         "list": lent + lent,
         "session_new": lent,
-        "session_read": lent + number + place,
+        "session_read": lent + number + place + place,
         "session_summary": lent + lent,
         "session_misses": lent + number,
         "session_share": lent + number + place,
@@ -328,11 +328,14 @@ def listing(text):
 
 class Session:
     """A log taken read by read. `words` is its whole state, an array('I'), which may be kept and copied, or set to any
-    buffer of words that can be written to; `sums_read` is the number of sums that the last accepted read looked at, 0 for
-    a cold read."""
+    buffer of words that can be written to.
+
+    `sums_read` and `slots_looked` are those of the last read accepted here, 0 before it. The first is the number of sums
+    read, 0 for a cold read. The second is the number of slots looked at, after any move of the marks: from the one below
+    the next slot down to the extent's own mark, or all below the next slot for a cold read."""
 
     def __init__(self):
-        self.sums_read = 0
+        self.sums_read = self.slots_looked = 0
         self.words = _zeros(SESSION_WORDS)
         with _writable(self.words) as words:
             _call("session_new", words)
@@ -347,10 +350,10 @@ class Session:
 
     def read(self, extent):
         """One more read, and its Answer. A refused read changes nothing. Refusals: 7, 8, 9."""
-        looked = ctypes.c_uint32(0)
+        sums_read, slots_looked = ctypes.c_uint32(0), ctypes.c_uint32(0)
         with _writable(self.words) as words:
-            word = _call("session_read", words, _number(extent), ctypes.byref(looked))
-        self.sums_read = looked.value
+            word = _call("session_read", words, _number(extent), ctypes.byref(sums_read), ctypes.byref(slots_looked))
+        self.sums_read, self.slots_looked = sums_read.value, slots_looked.value
         return Answer(word)
 
     def summary(self):

@@ -2,11 +2,11 @@
 """Tests of the wrapper: whatever it is handed, it answers, or raises, and never reads or writes memory that is not lent.
 
 Run python/build first. What the calls answer is compared with an independent implementation in tests/. The answers of
-reads and what a watch takes of them are tested in test_answers.py.
+reads and what a watch takes of them are tested in test_answers.py, what a session tells beside them in
+test_slots_looked.py.
 """
 import ctypes
 import mmap
-import os
 import pickle
 import sys
 import tempfile
@@ -465,17 +465,6 @@ class Threads(unittest.TestCase):
         for thread in threads:
             thread.join()
         self.assertEqual(got, [wanted] * 8)
-
-
-class Header(unittest.TestCase):
-    def test_the_lengths_are_those_of_the_header(self):
-        header = os.path.join(os.path.dirname(os.path.abspath(__file__)), "..", "include", "jemqolu.h")
-        with open(header, encoding="ascii") as file:
-            lines = [line.split() for line in file if line.startswith("#define JEMQOLU_")]
-        defined = {line[1][len("JEMQOLU_") :]: int(line[2]) for line in lines if len(line) > 2}
-        ours = {name: getattr(jemqolu, name) for name in defined if hasattr(jemqolu, name)}
-        self.assertEqual(set(defined) - set(ours), {"STACK_BYTES"})
-        self.assertEqual(ours, {name: defined[name] for name in ours})
 
 
 if __name__ == "__main__":

@@ -1,0 +1,41 @@
+#!/usr/bin/env python3
+"""Tests of the wrapper's lengths and of the types of its calls: they are those of the header for C.
+
+Run python/build first.
+"""
+import ctypes
+import os
+import re
+import sys
+import unittest
+
+sys.dont_write_bytecode = True
+import jemqolu  # noqa: E402
+
+
+class Header(unittest.TestCase):
+    """What the wrapper has in common with include/jemqolu.h."""
+
+    def setUp(self):
+        header = os.path.join(os.path.dirname(os.path.abspath(__file__)), "..", "include", "jemqolu.h")
+        with open(header, encoding="ascii") as file:
+            self.text = file.read()
+
+    def test_the_lengths_are_those_of_the_header(self):
+        lines = [line.split() for line in self.text.splitlines() if line.startswith("#define JEMQOLU_")]
+        defined = {line[1][len("JEMQOLU_") :]: int(line[2]) for line in lines if len(line) > 2}
+        ours = {name: getattr(jemqolu, name) for name in defined if hasattr(jemqolu, name)}
+        self.assertEqual(set(defined) - set(ours), {"STACK_BYTES"})
+        self.assertEqual(ours, {name: defined[name] for name in ours})
+
+    def test_the_arguments_are_those_of_the_header(self):
+        numbers, declared = {"size_t": ctypes.c_size_t, "uint32_t": ctypes.c_uint32}, {}
+        for name, arguments in re.findall(r"^int64_t jemqolu_(\w+)\((.*?)\);", self.text, re.DOTALL | re.MULTILINE):
+            kinds = [ctypes.c_void_p if "*" in one else numbers[one.split()[0]] for one in arguments.split(",")]
+            declared[name] = kinds
+        self.assertEqual({name: call.argtypes for name, call in jemqolu._LOCKED.items()}, declared)
+        self.assertEqual({name: call.argtypes for name, call in jemqolu._UNLOCKED.items()}, declared)
+
+
+if __name__ == "__main__":
+    unittest.main()

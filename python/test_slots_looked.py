@@ -1,0 +1,271 @@
+#!/usr/bin/env python3
+"""Tests of what a session tells of its last accepted read: the sums read and the slots looked at.
+
+Run python/build first. Both are compared with an account by the log alone.
+"""
+import copy
+import ctypes
+import itertools
+import pickle
+import random
+import sys
+import unittest
+from array import array
+
+sys.dont_write_bytecode = True
+import jemqolu  # noqa: E402
+from jemqolu import MAX_EXTENTS, MAX_READS, SESSION_WORDS  # noqa: E402
+from test_jemqolu import LOG, MOST, Index, Refusing, session_of  # noqa: E402
+
+SLOTS = 512
+# where the parts of a session begin in its words
+F, H, SLOT, SUMS, NEXT = 1, 257, 513, 1025, 2048
+# of each read of LOG: the sums read and the slots looked at
+ROW = [(0, 0), (0, 1), (9, 2), (0, 3), (8, 3), (8, 1), (7, 3)]
+
+
+def zeros(slot):
+    """The zeros of the slot's number in nine binary digits."""
+    return format(slot, "09b").count("0")
+
+
+def account(log):
+    """The sums read and the slots looked at of each read of a log, by the log alone: a counter, which is the next slot,
+    and its value at each extent's last read; at 512 the extents are numbered again from 0, in order."""
+    counts, slots, next_slot = [], {}, 0
+    for extent in log:
+        if next_slot == SLOTS:
+            slots = {known: place for place, known in enumerate(sorted(slots, key=slots.get))}
+            next_slot = len(slots)
+        if extent in slots:
+            counts.append((zeros(slots[extent]), next_slot - slots[extent]))
+        else:
+            counts.append((0, next_slot))
+        slots[extent] = next_slot
+        next_slot += 1
+    return counts
+
+
+def told(session):
+    """What the session tells of its last accepted read."""
+    return session.sums_read, session.slots_looked
+
+
+def made(marks, next_slot, reads=None):
+    """The words of a session with these marks, a dict of slots by extent, and this next slot; all of its reads that are
+    not cold have distance 1."""
+    words = array("I", bytes(4 * SESSION_WORDS))
+    words[0] = len(marks) if reads is None else reads
+    words[H] = words[0] - len(marks)
+    for place, (extent, slot) in enumerate(marks.items()):
+        words[F + place], words[SLOT + slot], words[SUMS + slot] = extent, extent, 1
+    for place in range(2 * SLOTS - 2):
+        words[SUMS + SLOTS + place // 2] += words[SUMS + place]
+    words[NEXT] = next_slot
+    return words
+
+
+def changed(words, place, value):
+    """A copy of the words with one of them changed."""
+    copied = words[:]
+    copied[place] = value
+    return copied
+
+
+def refused_reads():
+    """The number of a refusal, words, and an extent whose read from them is refused so."""
+    sound = made({7: 2, 3: 5}, 6)
+    for place, value in ((0, 3), (F, 4), (H, 1), (SLOT + 2, 3), (SLOT, 9), (SUMS + 2, 0), (SUMS, 1), (NEXT, 5)):
+        yield 7, changed(sound, place, value), 7
+    yield from ((7, changed(sound, NEXT, 513), 7), (7, changed(sound, NEXT, MOST), 8), (7, sound[:-1], 7))
+    yield 7, array("I", [MOST]) * SESSION_WORDS, MOST
+    full = {extent: extent + 200 for extent in range(MAX_EXTENTS)}
+    for next_slot in (456, 511, 512):
+        for extent in (0, 255, 256, MOST):
+            yield 8, made(full, next_slot, MAX_READS), extent
+        yield from ((9, made(full, next_slot), 256), (9, made(full, next_slot, MAX_READS - 1), MOST))
+
+
+def logs():
+    """Logs of some thousand reads: by chance, in turn, to and fro, skewed, and one working set after another."""
+    source = random.Random(3)
+    extents = [0, MOST] + source.sample(range(1, MOST), MAX_EXTENTS - 2)
+    for count in (1, 2, 3, 40, 255, 256):
+        yield source.choices(extents[:count], k=3000)
+    yield [extents[place % MAX_EXTENTS] for place in range(2000)]
+    yield [extents[min(place % 510, 510 - place % 510)] for place in range(3000)]
+    yield source.choices(extents, [1 / rank for rank in range(1, 257)], k=4000)
+    yield [extents[8 * (place // 100) + source.randrange(16)] for place in range(3000)]
+
+
+class Telling(Refusing):
+    def tells(self, session, log, wanted):
+        """Of each of these reads the session tells what is wanted."""
+        reads = list(log)
+        self.assertEqual(len(reads), len(wanted))
+        for place, extent in enumerate(reads):
+            session.read(extent)
+            self.assertEqual(told(session), wanted[place], "read %d" % place)
+
+
+class Rows(Telling):
+    """Reads whose counts are known."""
+
+    def test_before_any_read(self):
+        self.assertEqual(told(jemqolu.Session()), (0, 0))
+        self.assertEqual(told(jemqolu.Session.resume(session_of(LOG).words)), (0, 0))
+
+    def test_the_seven_reads(self):
+        self.tells(jemqolu.Session(), LOG, ROW)
+        self.tells(jemqolu.Session(), map(Index, LOG), ROW)
+        self.assertEqual(account(LOG), ROW)
+
+    def test_cold_reads_look_at_all_slots_below_the_next(self):
+        numbers = range(MAX_EXTENTS)
+        self.tells(jemqolu.Session(), numbers, [(0, number) for number in numbers])
+        for reads in (1, 2, 100, 511):
+            self.tells(session_of([5] * reads), [6], [(0, reads)])
+
+    def test_cold_reads_after_the_marks_move(self):
+        self.tells(session_of([5] * 512), [6, 7, 8], [(0, 1), (0, 2), (0, 3)])
+        self.tells(session_of([*range(255)] + [3] * 257), [MOST], [(0, 255)])
+
+    def test_one_extent(self):
+        # the mark is found at the slots 0 to 510, then, from 511 moved, again from 0 on
+        counts = [(0, 0)] + [(zeros(place % 511), 1) for place in range(1599)]
+        self.assertEqual(counts[511:513], [(1, 1), (9, 1)])
+        self.tells(jemqolu.Session(), [5] * 1600, counts)
+
+    def test_a_read_of_the_extent_read_last(self):
+        session = jemqolu.Session()
+        for extent in random.Random(1).choices(range(200), k=1500):
+            session.read(extent)
+            session.read(extent)
+            self.assertEqual(session.slots_looked, 1)
+
+    def test_256_extents_after_the_marks_move(self):
+        extents = range(MAX_EXTENTS)
+        session = session_of([*extents, *extents])
+        self.tells(session, reversed(extents), [(zeros(slot), 511 - 2 * slot) for slot in reversed(extents)])
+        session = session_of([*extents, *extents, *extents])
+        self.tells(session, extents, [(zeros(slot), 256) for slot in extents])
+
+    def test_slots_without_a_mark_are_not_extent_0(self):
+        self.tells(jemqolu.Session(), [1, 1, 0, 1, 1, 0], [(0, 0), (9, 1), (0, 2), (8, 2), (7, 1), (8, 3)])
+        self.tells(session_of([0] + [1] * 510), [0], [(9, 511)])
+
+
+class Words(Telling):
+    """Sessions that go on from words."""
+
+    def test_every_cut(self):
+        log = [place * place % 37 for place in range(700)]
+        wanted, session = account(log), jemqolu.Session()
+        for cut, extent in enumerate(log):
+            resumed = jemqolu.Session.resume(session.words)
+            self.tells(resumed, log[cut : cut + 3], wanted[cut : cut + 3])
+            self.tells(session, [extent], [wanted[cut]])
+
+    def test_every_short_log_where_the_marks_move(self):
+        before = [1, 2, 0] * 170
+        words = session_of(before).words
+        for log in itertools.product(range(4), repeat=4):
+            self.tells(jemqolu.Session.resume(words), log, account(before + list(log))[len(before) :])
+
+    def test_one_mark_at_many_slots(self):
+        for slot, extent in itertools.product((0, 1, 2, 7, 255, 256, 257, 400, 509, 510, 511), (0, 5, MOST)):
+            words = made({extent: slot}, SLOTS)
+            self.tells(jemqolu.Session.resume(words), [extent], [(9, 1)])
+            self.tells(jemqolu.Session.resume(words), [6], [(0, 1)])
+            for next_slot in range(slot + 1, SLOTS):
+                words[NEXT] = next_slot
+                self.tells(jemqolu.Session.resume(words), [extent], [(zeros(slot), next_slot - slot)])
+                self.tells(jemqolu.Session.resume(words), [6], [(0, next_slot)])
+
+    def test_some_marks(self):
+        marks = {5: 3, 0: 400, 8: 401}
+        for next_slot, extent, wanted in (
+            (450, 5, (7, 447)),
+            (450, 0, (6, 50)),
+            (450, 8, (5, 49)),
+            (450, 9, (0, 450)),
+            (512, 5, (9, 3)),
+            (512, 0, (8, 2)),
+            (512, 8, (8, 1)),
+            (512, 9, (0, 3)),
+        ):
+            self.tells(jemqolu.Session.resume(made(marks, next_slot)), [extent], [wanted])
+
+    def test_words_that_are_set(self):
+        session = session_of(LOG)
+        session.words = jemqolu.Session().words
+        self.assertEqual(told(session), ROW[-1])
+        self.tells(session, LOG, ROW)
+
+    def test_copies_keep_what_the_last_read_told(self):
+        session = session_of(LOG)
+        for copied in (copy.copy(session), copy.deepcopy(session), pickle.loads(pickle.dumps(session))):
+            self.assertEqual(told(copied), ROW[-1])
+        self.tells(copied, [7], [(8, 5)])
+        self.assertEqual(told(session), ROW[-1])
+
+
+class Refusals(Telling):
+    """A read that is not accepted changes neither the words nor what the last accepted one told."""
+
+    def test_refusals_change_nothing(self):
+        numbers = []
+        for number, words, extent in refused_reads():
+            session = session_of(LOG)
+            session.words = words[:]
+            self.refused(number, session.read, extent)
+            self.assertEqual(told(session), ROW[-1])
+            self.assertEqual(session.words, words)
+            numbers.append(number)
+        self.assertEqual([numbers.count(number) for number in (7, 8, 9)], [12, 12, 6])
+
+    def test_reads_go_on_after_refusals(self):
+        log = [place % 256 for place in range(600)]
+        session, wanted = session_of(log[:256]), account(log)
+        for place in range(256, len(log)):
+            self.refused(9, session.read, 256)
+            self.assertEqual(told(session), wanted[place - 1])
+            self.tells(session, [log[place]], [wanted[place]])
+
+    def test_extents_that_are_none_change_nothing(self):
+        session = session_of(LOG)
+        kept = session.words[:]
+        for extent in (None, 2.0, "7", [7], -1, MOST + 1, 1 << 64):
+            self.assertRaises((TypeError, OverflowError), session.read, extent)
+            self.assertEqual(told(session), ROW[-1])
+            self.assertEqual(session.words, kept)
+        for words in (None, kept.tobytes(), memoryview(kept).toreadonly(), memoryview(bytearray(8200))[1:-3].cast("I")):
+            session.words = words
+            self.assertRaises((TypeError, ValueError), session.read, 7)
+            self.assertEqual(told(session), ROW[-1])
+
+    def test_the_places(self):
+        places = (ctypes.c_uint32 * 5)(*[77] * 5)
+        lent = ctypes.byref(places, 4), ctypes.byref(places, 12)
+        for number, words, extent in refused_reads():
+            with memoryview(words) as view:
+                self.refused(number, jemqolu._call, "session_read", view, extent, *lent)
+            self.assertEqual(places[:], [77] * 5)
+        with memoryview(made({7: 2, 3: 5}, 6)) as view:
+            jemqolu._call("session_read", view, 7, *lent)
+            self.assertEqual(places[:], [77, 8, 77, 4, 77])
+            jemqolu._call("session_read", view, 8, *lent)
+            self.assertEqual(places[:], [77, 0, 77, 7, 77])
+
+
+class Logs(Telling):
+    def test_logs_by_the_log_alone(self):
+        compared = 0
+        for log in logs():
+            self.tells(jemqolu.Session(), log, account(log))
+            compared += len(log)
+        self.assertEqual(compared, 30_000)
+
+
+if __name__ == "__main__":
+    unittest.main()
