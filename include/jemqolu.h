@@ -138,8 +138,8 @@ int64_t jemqolu_list(const uint8_t *text, size_t text_len, uint8_t *out, size_t 
 int64_t jemqolu_session_new(uint32_t *session, size_t session_len);
 
 /* One more read. Where the next slot is 512, the v extents first move, in order, to the slots 0 to v - 1, and the next
- * slot becomes v. The slots looked at are those from the one below the next slot down to the extent's own: 1 for the
- * extent read last. A cold read looks at all below the next slot.
+ * slot becomes v. The slots looked at are those from the one below the next slot down to the extent's own: 1 where the
+ * read before was of the same extent. A cold read looks at all below the next slot.
  * Lent: the session, which is changed there; two words, both set by an accepted read: `*sums_read` to the number of sums
  * read, 0 for a cold read, and `*slots_looked` to the number of slots looked at.
  * Answer: the reuse distance, or for a cold read JEMQOLU_COLD_BASE plus its number. Refusals, in order: -7, -8, -9. */

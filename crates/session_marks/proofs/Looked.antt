@@ -8,11 +8,11 @@ use native.Mathlib.Decide.{ℕ-discrete}
 use lib.ListN.{length, length-reverse}
 use Rattle.reuse.specs.Lists.{mem, from}
 use Rattle.session_sums.specs.Sums.{marksIn}
-use Rattle.session_marks.specs.Marks.{marked, slotFrom, holds, lookedBelow, Searched}
+use Rattle.session_marks.specs.Marks.{marked, slotFrom, isMarkOf, lookedBelow, Searched}
 use Rattle.reuse.proofs.Lists.{clash, by-test}
 use Rattle.reuse.proofs.Counts.{length-from, from-snoc}
 use Rattle.session_marks.proofs.Marks.{mem-marked, slot-found, slot-marked, slot-holds, out-below}
-use Rattle.session_marks.proofs.Search.{searched-row, held, holding}
+use Rattle.session_marks.proofs.Search.{searched-row, mark-of, of-mark}
 
 -- a run of numbers, the largest first
 run-down : (k n : ℕ) → reverse (from k (suc n)) ≡ (k + n) ∷ reverse (from k n)
@@ -24,17 +24,17 @@ length-down k n = length-reverse (from k n) ∙ length-from k n
 
 module _ (xs ms : List ℕ) (x : ℕ) where
   -- at the slot that holds x the search ends
-  looked-here : (i : ℕ) → holds xs ms x i ≡ true → lookedBelow xs ms x (suc i) ≡ i ∷ []
+  looked-here : (i : ℕ) → isMarkOf xs ms x i ≡ true → lookedBelow xs ms x (suc i) ≡ i ∷ []
   unfolding lookedBelow
   looked-here i t = rw t
 
   -- past a slot that does not hold x the search goes on
-  looked-on : (i : ℕ) → holds xs ms x i ≡ false → lookedBelow xs ms x (suc i) ≡ i ∷ lookedBelow xs ms x i
+  looked-on : (i : ℕ) → isMarkOf xs ms x i ≡ false → lookedBelow xs ms x (suc i) ≡ i ∷ lookedBelow xs ms x i
   unfolding lookedBelow
   looked-on i f = rw f
 
   -- where the search below suc k ends at slot k, and no slot between k and n holds x, the search below n goes down to k
-  looked-down : (k n : ℕ) → lookedBelow xs ms x (suc k) ≡ k ∷ [] → ((i : ℕ) → k < i → i < n → holds xs ms x i ≡ false) → k < n
+  looked-down : (k n : ℕ) → lookedBelow xs ms x (suc k) ≡ k ∷ [] → ((i : ℕ) → k < i → i < n → isMarkOf xs ms x i ≡ false) → k < n
       → lookedBelow xs ms x n ≡ reverse (from k (n - k))
   looked-down k zero here free l = absurd (omega arith)
   looked-down k (suc n) here free l = by (ℕ-discrete k n) (λ b. looked-down k n here (λ i a c. free i a (omega arith)) b)
@@ -64,10 +64,10 @@ module _ (xs ms : List ℕ) (next x : ℕ) (s : Searched xs ms next) where
     pub looked-known : lookedBelow xs ms x next ≡ reverse (from (slotFrom (marksIn ms) xs x) (next - slotFrom (marksIn ms) xs x))
     looked-known =
         let r = searched-row xs ms next x s in
-        let here : holds xs ms x slot ≡ true = holding xs ms next x s slot (omega (arith, below, s .low)) (slot-marked r x old) (slot-holds r x old) in
+        let here : isMarkOf xs ms x slot ≡ true = of-mark xs ms next x s slot (omega (arith, below, s .low)) (slot-marked r x old) (slot-holds r x old) in
         looked-down xs ms x slot next (looked-here xs ms x slot here)
-        (λ i a b. by-test (holds xs ms x i)
-        (λ t. let p = held xs ms next x s i (omega (arith, s .low)) t in absurd (omega (arith, slot-found r i x (s .apart) (p .0) (p .1))))
+        (λ i a b. by-test (isMarkOf xs ms x i)
+        (λ t. let p = mark-of xs ms next x s i (omega (arith, s .low)) t in absurd (omega (arith, slot-found r i x (s .apart) (p .0) (p .1))))
         (λ f. f))
         below
 
@@ -80,10 +80,10 @@ module _ (xs ms : List ℕ) (next x : ℕ) (s : Searched xs ms next) where
     pub looked-new : lookedBelow xs ms x next ≡ reverse (from 0 next)
     looked-new = by next refl
       where
-        none : (i : ℕ) → i < next → holds xs ms x i ≡ false
+        none : (i : ℕ) → i < next → isMarkOf xs ms x i ≡ false
         none i l =
-            by-test (holds xs ms x i)
-            (λ t. let p = held xs ms next x s i (omega (arith, s .low)) t in clash (mem-marked (searched-row xs ms next x s) i x (p .0) (p .1)) new)
+            by-test (isMarkOf xs ms x i)
+            (λ t. let p = mark-of xs ms next x s i (omega (arith, s .low)) t in clash (mem-marked (searched-row xs ms next x s) i x (p .0) (p .1)) new)
             (λ f. f)
 
         by : (n : ℕ) → n ≡ next → lookedBelow xs ms x n ≡ reverse (from 0 n)

@@ -13,7 +13,7 @@ use borrow.Author.Tests.{eq-eqb, ne-eqb, eqb-true, le-leb, lt-leb}
 use Rattle.reuse.specs.Limits.{slotCount, sumCount}
 use Rattle.session_sums.specs.Sums.{marksIn}
 use Rattle.session_marks.specs.declared.Found.{Found}
-use Rattle.session_marks.specs.Marks.{slotFrom, paired, holds, lastBelow, lookedBelow, foundIn, Searched}
+use Rattle.session_marks.specs.Marks.{slotFrom, paired, isMarkOf, lastBelow, lookedBelow, foundIn, Searched}
 use Rattle.reuse.proofs.Lists.{clash, by-test, both}
 use Rattle.reuse.proofs.Sums.{free-at}
 use Rattle.session_marks.proofs.Marks.{Row, tidy-row, slot-found, slot-none}
@@ -41,16 +41,16 @@ nothing n = record { slot = slotCount; looked = n }
 module _ (xs ms : List ℕ) (x : ℕ) where
   module _ (i n : ℕ) (l : 0 < i) where
     -- the slot below i holds x, or the search goes on below it
-    step : goingOn xs ms x i n ≡ cond (holds xs ms x (i - 1)) (record { slot = i - 1; looked = n + 1 }) (goingOn xs ms x (i - 1) (n + 1))
+    step : goingOn xs ms x i n ≡ cond (isMarkOf xs ms x (i - 1)) (record { slot = i - 1; looked = n + 1 }) (goingOn xs ms x (i - 1) (n + 1))
     unfolding lastBelow lookedBelow
     step = by i refl
       where
-        by : (j : ℕ) → j ≡ i → goingOn xs ms x j n ≡ cond (holds xs ms x (j - 1)) (record { slot = j - 1; looked = n + 1 }) (goingOn xs ms x (j - 1) (n + 1))
+        by : (j : ℕ) → j ≡ i → goingOn xs ms x j n ≡ cond (isMarkOf xs ms x (j - 1)) (record { slot = j - 1; looked = n + 1 }) (goingOn xs ms x (j - 1) (n + 1))
         by zero e = absurd (omega arith)
         by (suc j) e =
             let b : suc j - 1 ≡ j = omega arith in
             let m : n + suc (length (lookedBelow xs ms x j)) ≡ n + 1 + length (lookedBelow xs ms x j) = omega arith in
-            rw b (by-test (holds xs ms x j) (λ t. simp t) (λ f. simp (f, m)))
+            rw b (by-test (isMarkOf xs ms x j) (λ t. simp t) (λ f. simp (f, m)))
 
     -- it is the one
     pub search-hit : getD xs (i - 1) 0 ≡ x → getD ms (i - 1) 0 ≡ 1 → goingOn xs ms x i n ≡ record { slot = i - 1; looked = n + 1 }
@@ -99,26 +99,26 @@ module _ (xs ms : List ℕ) (next x : ℕ) where
     pub searched-row : Row (marksIn ms) xs
     searched-row = tidy-row (marksIn ms) xs (s .slots-wide ∙ sym wide) (s .neat)
 
-    -- a slot that holds x has a mark and x
-    pub held : (i : ℕ) → i < slotCount → holds xs ms x i ≡ true → (getD (marksIn ms) i 0 ≡ 1) × (getD xs i 0 ≡ x)
-    held i l t =
+    -- a slot with the mark of x has a mark and x
+    pub mark-of : (i : ℕ) → i < slotCount → isMarkOf xs ms x i ≡ true → (getD (marksIn ms) i 0 ≡ 1) × (getD xs i 0 ≡ x)
+    mark-of i l t =
         let p = both (eqb (getD xs i 0) x) (eqb (getD ms i 0) 1) t in
         (getD-take slotCount ms i 0 l ∙ eqb-true (getD ms i 0) 1 (p .1), eqb-true (getD xs i 0) x (p .0))
 
-    -- and one with a mark and x holds it
-    pub holding : (i : ℕ) → i < slotCount → getD (marksIn ms) i 0 ≡ 1 → getD xs i 0 ≡ x → holds xs ms x i ≡ true
-    holding i l m e = simp (eq-eqb (getD xs i 0) x e, eq-eqb (getD ms i 0) 1 (sym (getD-take slotCount ms i 0 l) ∙ m))
+    -- and one with a mark and x has the mark of x
+    pub of-mark : (i : ℕ) → i < slotCount → getD (marksIn ms) i 0 ≡ 1 → getD xs i 0 ≡ x → isMarkOf xs ms x i ≡ true
+    of-mark i l m e = simp (eq-eqb (getD xs i 0) x e, eq-eqb (getD ms i 0) 1 (sym (getD-take slotCount ms i 0 l) ∙ m))
 
     -- no slot from i on holds x beside a mark
     abbrev Beyond : ℕ → Type 0
     Beyond i = (k : ℕ) → i ≤ k → getD (marksIn ms) k 0 ≡ 1 → getD xs k 0 ≡ x → ⊥
 
     -- one slot more
-    beyond : (i : ℕ) → i < slotCount → holds xs ms x i ≡ false → Beyond (suc i) → Beyond i
+    beyond : (i : ℕ) → i < slotCount → isMarkOf xs ms x i ≡ false → Beyond (suc i) → Beyond i
     beyond i l f all k h m e = by (ℕ-discrete k i)
       where
         by : Dec (k ≡ i) → ⊥
-        by (yes q) = clash (holding i l (ap (λ (n : ℕ). getD (marksIn ms) n 0) (sym q) ∙ m) (ap (λ (n : ℕ). getD xs n 0) (sym q) ∙ e)) f
+        by (yes q) = clash (of-mark i l (ap (λ (n : ℕ). getD (marksIn ms) n 0) (sym q) ∙ m) (ap (λ (n : ℕ). getD xs n 0) (sym q) ∙ e)) f
         by (no q) = all k (omega arith) m e
 
     -- where no slot from i on does, the search below i finds the slot
@@ -126,8 +126,8 @@ module _ (xs ms : List ℕ) (next x : ℕ) where
     unfolding lastBelow
     last-slot zero l all = sym (slot-none searched-row x (λ k m e. all k (omega arith) m e) ∙ wide)
     last-slot (suc i) l all =
-        by-test (holds xs ms x i)
-        (λ t. let p = held i (omega arith) t in simp t (sym (slot-found searched-row i x (s .apart) (p .0) (p .1))))
+        by-test (isMarkOf xs ms x i)
+        (λ t. let p = mark-of i (omega arith) t in simp t (sym (slot-found searched-row i x (s .apart) (p .0) (p .1))))
         (λ f. simp f (last-slot i (omega arith) (beyond i (omega arith) f all)))
 
     -- so it finds the slot of x, and has looked at the slots on the way there

@@ -32,19 +32,19 @@ slotFrom (m ∷ ms) (y ∷ ys) x = cond (eqb m 1 && eqb x y) 0 (suc (slotFrom ms
 unfoldable pub paired : List ℕ → List ℕ → Bool
 paired slots sums = eqb (length slots) slotCount && eqb (length sums) sumCount
 
--- slot i is marked and holds x
-abbrev pub holds : List ℕ → List ℕ → ℕ → ℕ → Bool
-holds slots sums x i = eqb (getD slots i 0) x && eqb (getD sums i 0) 1
+-- slot i has the mark of x: it is marked and holds x
+abbrev pub isMarkOf : List ℕ → List ℕ → ℕ → ℕ → Bool
+isMarkOf slots sums x i = eqb (getD slots i 0) x && eqb (getD sums i 0) 1
 
 -- the last marked slot below n that holds x; the number of slots where none does
 unfoldable pub lastBelow : List ℕ → List ℕ → ℕ → ℕ → ℕ
 lastBelow slots sums x zero = slotCount
-lastBelow slots sums x (suc i) = cond (holds slots sums x i) i (lastBelow slots sums x i)
+lastBelow slots sums x (suc i) = cond (isMarkOf slots sums x i) i (lastBelow slots sums x i)
 
 -- the slots on the way there, one by one: from the one below n down to the marked one that holds x, or else to slot 0
 unfoldable pub lookedBelow : List ℕ → List ℕ → ℕ → ℕ → List ℕ
 lookedBelow slots sums x zero = []
-lookedBelow slots sums x (suc i) = i ∷ cond (holds slots sums x i) [] (lookedBelow slots sums x i)
+lookedBelow slots sums x (suc i) = i ∷ cond (isMarkOf slots sums x i) [] (lookedBelow slots sums x i)
 
 -- the search for x below next in a session's rows: the slot, and how many were looked at; in other rows, or below a slot
 -- that there is not, none is looked at
