@@ -28,9 +28,9 @@ use Rattle.session.proofs.Looked.{looked-old, count-old, looked-absent, count-a
 use Rattle.session_traces.proofs.Stands.{Stands, stands-known}
 use Rattle.session_traces.proofs.Read.{over, read-accepted, read-stands}
 
--- how many slots a step tells
-abbrev tells : Step → ℕ
-tells r = slotsLooked (r .answer)
+-- how many slots a step tells were looked at
+abbrev slotsTold : Step → ℕ
+slotsTold r = slotsLooked (r .answer)
 
 -- depths are one number
 one-depth : {a b : ℕ} → at (suc a) ≡ at (suc b) → a ≡ b
@@ -38,7 +38,7 @@ one-depth e = cc
 
 module _ (s : Session) (k : Kept s) (x : ℕ) where
   -- an accepted read by a session with room tells how many slots its search looks at
-  taken-told : tells (taken s x) ≡ length (lookedAt s x)
+  taken-told : slotsTold (taken s x) ≡ length (lookedAt s x)
   unfolding taken
   taken-told =
       by-test (mem x (stackOf s))
@@ -53,9 +53,9 @@ module _ (s : Session) (k : Kept s) (x : ℕ) where
 accepted-look : (s : Session) → Kept s → (x : ℕ) → readOf s x ≡ taken (roomed s) x → Look s x
 accepted-look s k x is =
     let m : Roomed s (roomed s) = kept-roomed s k in
-    let told : tells (readOf s x) ≡ length (lookedAt (roomed s) x) = ap tells is ∙ taken-told (roomed s) (m .kept) x in
+    let told : slotsTold (readOf s x) ≡ length (lookedAt (roomed s) x) = ap slotsTold is ∙ taken-told (roomed s) (m .kept) x in
     record {
-      told = told;
+      tells = told;
       known = λ old. looked-old (roomed s) (m .kept) x (ap (mem x) (m .stacked) ∙ old);
       one-mark = λ i mark e. unfold slotOf in sym (slot-found (m .kept .rows .row) i x (m .kept .rows .apart) mark e);
       new = λ absent. looked-absent (roomed s) (m .kept) x (ap (mem x) (m .stacked) ∙ absent);
@@ -147,6 +147,6 @@ module _ (s : Session) (t : List ℕ) (g : Stands s t) (x : ℕ) (short : eqb (l
       let m : Roomed after (roomed after) = kept-roomed after k in
       let old : mem x longer ≡ true = mem-append x t (x ∷ []) ∙ rw (mem-head x []) (or-true (mem x t)) in
       let top : stackOf after ≡ x ∷ remove x (stack t) = h .stacked ∙ stack-snoc t x ∙ unfold touch in refl in
-      ap tells (read-accepted after longer h x more (rw old))
+      ap slotsTold (read-accepted after longer h x more (rw old))
       ∙ taken-told (roomed after) (m .kept) x
       ∙ newest-one (roomed after) (m .kept) x (remove x (stack t)) (roomed-newest after k read-newest) (m .stacked ∙ top)

@@ -14,7 +14,7 @@ use Rattle.session.specs.Reads.{roomed, slotOf, lookedAt, tooMany, readOf, slot
 -- what an accepted read of x looks at, after any move of the marks
 pub record Look (s : Session) (x : ℕ) : Type 0 where
   -- the answer tells how many slots the search looks at
-  pub told : slotsLooked (readOf s x .answer) ≡ length (lookedAt (roomed s) x)
+  pub tells : slotsLooked (readOf s x .answer) ≡ length (lookedAt (roomed s) x)
   -- for a known extent these are the slots from the newest down to its own mark
   pub known : mem x (stackOf s) ≡ true → lookedAt (roomed s) x ≡ reverse (from (slotOf (roomed s) x) (roomed s .next - slotOf (roomed s) x))
   -- which is its only one

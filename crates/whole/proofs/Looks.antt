@@ -23,7 +23,7 @@ pub looked-along : (u : List ℕ) (s : Session) (t : List ℕ) → Stands s t �
 unfolding answersOf lookedAlong
 looked-along [] s t g w = refl
 looked-along (x ∷ u) s t g w =
-    ap {B = List ℕ} (λ n. n ∷ map slotsLooked (answersOf (readOf s x .session) u)) (trace-look s t g x short few .told)
+    ap {B = List ℕ} (λ n. n ∷ map slotsLooked (answersOf (readOf s x .session) u)) (trace-look s t g x short few .tells)
     ∙ ap {B = List ℕ} (λ l. length (lookedAt (roomed s) x) ∷ l)
     (looked-along u (readOf s x .session) (t ++ (x ∷ [])) (read-stands s t g x short few) (rw append-assoc w))
   where

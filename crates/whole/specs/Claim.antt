@@ -69,9 +69,9 @@ pub record Claims (t : List ℕ) : Type 0 where
   -- the numbers of its cold answers are 1, 2, and so on to the number of the log's extents
   pub growth : newcomers (reuses [] t) ≡ from 1 (length (firsts t))
   -- each of its answers tells how many slots were looked at
-  pub looked : map slotsLooked (answersOf fresh t) ≡ map length (lookedAlong fresh t)
+  pub slots-looked : map slotsLooked (answersOf fresh t) ≡ map length (lookedAlong fresh t)
   -- those from the newest down to the extent's own mark, or all below next; one for a read of the extent read last
-  pub looks : (earlier later : List ℕ) (x : ℕ) → earlier ++ (x ∷ later) ≡ t → Looked earlier x
+  pub reads-look : (earlier later : List ℕ) (x : ℕ) → earlier ++ (x ∷ later) ≡ t → Looked earlier x
   -- its summary is the log's
   pub uncut-summary : (buffer : List ℕ) →
       outcome (summaryCall (sessionAfter fresh t) buffer) ≡ cond (roomFor t buffer) (gives (summaryOf t)) (refused 6)
