@@ -7,6 +7,8 @@ use lib.Dec.{eqb}
 use lib.ListN.{length}
 use Rattle.reuse.specs.Limits.{maxReads}
 use Rattle.reuse.specs.Traces.{Within}
+use Rattle.reuse.specs.Lists.{mem}
+use Rattle.reuse.proofs.Stack.{mem-stack}
 use Rattle.reuse.proofs.Traces.{within-front}
 use Rattle.session.specs.declared.Session.{Session}
 use Rattle.session.specs.Sessions.{fresh}
@@ -44,10 +46,15 @@ after-snoc (y ∷ t) s x = after-snoc t (readOf s y .session) x
 -- what each read of a log looks at
 pub log-looks : (t u : List ℕ) (x : ℕ) → Within (t ++ (x ∷ u)) → Looked t x
 log-looks t u x w = record {
-  look = trace-look (sessionAfter fresh t) t (trace-stands t (within-front t (x ∷ u) w)) x (within-reads t u x w) (within-extents t u x w);
+  marked = ap (mem x) (stands .stacked) ∙ mem-stack x t;
+  look = trace-look (sessionAfter fresh t) t stands x (within-reads t u x w) (within-extents t u x w);
   again = λ earlier e. rw e (last-read earlier (rw (e, append-assoc) at w));
 }
   where
+    -- the session has read t
+    stands : Stands (sessionAfter fresh t) t
+    stands = trace-stands t (within-front t (x ∷ u) w)
+
     -- after a read of x itself
     last-read : (earlier : List ℕ) → Within (earlier ++ (x ∷ x ∷ u)) → slotsLooked (readOf (sessionAfter fresh (earlier ++ (x ∷ []))) x .answer) ≡ 1
     last-read earlier h =

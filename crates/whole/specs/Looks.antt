@@ -2,8 +2,9 @@
 use Prim.Native.Nat.{ℕ}
 use mathlib.Core.Path.{_≡_}
 use mathlib.Core.List.{List, [], _∷_, _++_}
+use Rattle.reuse.specs.Lists.{mem}
 use Rattle.session.specs.declared.Session.{Session}
-use Rattle.session.specs.Sessions.{fresh}
+use Rattle.session.specs.Sessions.{fresh, stackOf}
 use Rattle.session.specs.Reads.{roomed, lookedAt, readOf, slotsLooked}
 use Rattle.session_traces.specs.Looks.{Look}
 use Rattle.whole.specs.Runs.{sessionAfter}
@@ -15,7 +16,9 @@ lookedAlong s (x ∷ xs) = lookedAt (roomed s) x ∷ lookedAlong (readOf s x .se
 
 -- what a read of x looks at after the log t
 pub record Looked (t : List ℕ) (x : ℕ) : Type 0 where
-  -- the slots from the newest down to its own mark, or all below next
+  -- x has a mark exactly where t has a read of it
+  pub marked : mem x (stackOf (sessionAfter fresh t)) ≡ mem x t
+  -- the slots from the newest down to that mark, or all below next
   pub look : Look (sessionAfter fresh t) x
   -- one where x was read last
   pub again : (earlier : List ℕ) → t ≡ earlier ++ (x ∷ []) → slotsLooked (readOf (sessionAfter fresh t) x .answer) ≡ 1
