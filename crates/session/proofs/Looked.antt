@@ -45,7 +45,7 @@ module _ (s : Session) (k : Kept s) where
       unfolding slotOf lookedAt marks
       looked-old = looked-known (s .slots) (s .sums) (s .next) x searched (sym (stack-mem s k x) ∙ old)
 
-      -- so many
+      -- as many as next less its slot
       pub count-old : length (lookedAt s x) ≡ s .next - slotOf s x
       unfolding slotOf lookedAt marks
       count-old = count-known (s .slots) (s .sums) (s .next) x searched (sym (stack-mem s k x) ∙ old)
@@ -56,7 +56,7 @@ module _ (s : Session) (k : Kept s) where
       unfolding lookedAt marks
       looked-absent = looked-new (s .slots) (s .sums) (s .next) x searched (sym (stack-mem s k x) ∙ absent)
 
-      -- so many
+      -- as many as next
       pub count-absent : length (lookedAt s x) ≡ s .next
       unfolding lookedAt marks
       count-absent = count-new (s .slots) (s .sums) (s .next) x searched (sym (stack-mem s k x) ∙ absent)

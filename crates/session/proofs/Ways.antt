@@ -58,7 +58,7 @@ module _ (s : Session) (k : Kept s) where
     }
       where
         mark : getD (marks s) (slotOf s x) 0 ≡ 1
-        mark = unfold slotOf in slot-marked (k .rows .row) x (sym (stack-mem s k x) ∙ t)
+        mark = unfold slotOf in slot-marked (k .rows .row) x (sym (stack-mem s k x) ∙ t) .0
 
         behind : sum (drop (suc (slotOf s x)) (marks s)) < maxExtents
         behind = omega (arith, mark, sum-drop (slotOf s x) (marks s), sum-drop-le (slotOf s x) (marks s), k .rows .few)

@@ -11,7 +11,7 @@ use Rattle.session_sums.specs.Sums.{marksIn}
 use Rattle.session_marks.specs.Marks.{marked, slotFrom, isMarkOf, lookedBelow, Searched}
 use Rattle.reuse.proofs.Lists.{clash, by-test}
 use Rattle.reuse.proofs.Counts.{length-from, from-snoc}
-use Rattle.session_marks.proofs.Marks.{mem-marked, slot-found, slot-marked, slot-holds, out-below}
+use Rattle.session_marks.proofs.Marks.{mem-marked, slot-found, slot-marked, out-below}
 use Rattle.session_marks.proofs.Search.{searched-row, mark-of, of-mark}
 
 -- a run of numbers, the largest first
@@ -23,17 +23,17 @@ length-down : (k n : ℕ) → length (reverse (from k n)) ≡ n
 length-down k n = length-reverse (from k n) ∙ length-from k n
 
 module _ (xs ms : List ℕ) (x : ℕ) where
-  -- at the slot that holds x the search ends
+  -- at the slot with the mark of x the search ends
   looked-here : (i : ℕ) → isMarkOf xs ms x i ≡ true → lookedBelow xs ms x (suc i) ≡ i ∷ []
   unfolding lookedBelow
   looked-here i t = rw t
 
-  -- past a slot that does not hold x the search goes on
+  -- past a slot without it the search goes on
   looked-on : (i : ℕ) → isMarkOf xs ms x i ≡ false → lookedBelow xs ms x (suc i) ≡ i ∷ lookedBelow xs ms x i
   unfolding lookedBelow
   looked-on i f = rw f
 
-  -- where the search below suc k ends at slot k, and no slot between k and n holds x, the search below n goes down to k
+  -- where the search below suc k ends at slot k, and no slot between k and n has the mark of x, the search below n goes down to k
   looked-down : (k n : ℕ) → lookedBelow xs ms x (suc k) ≡ k ∷ [] → ((i : ℕ) → k < i → i < n → isMarkOf xs ms x i ≡ false) → k < n
       → lookedBelow xs ms x n ≡ reverse (from k (n - k))
   looked-down k zero here free l = absurd (omega arith)
@@ -64,14 +64,15 @@ module _ (xs ms : List ℕ) (next x : ℕ) (s : Searched xs ms next) where
     pub looked-known : lookedBelow xs ms x next ≡ reverse (from (slotFrom (marksIn ms) xs x) (next - slotFrom (marksIn ms) xs x))
     looked-known =
         let r = searched-row xs ms next x s in
-        let here : isMarkOf xs ms x slot ≡ true = of-mark xs ms next x s slot (omega (arith, below, s .low)) (slot-marked r x old) (slot-holds r x old) in
+        let m = slot-marked r x old in
+        let here : isMarkOf xs ms x slot ≡ true = of-mark xs ms next x s slot (omega (arith, below, s .low)) (m .0) (m .1) in
         looked-down xs ms x slot next (looked-here xs ms x slot here)
         (λ i a b. by-test (isMarkOf xs ms x i)
         (λ t. let p = mark-of xs ms next x s i (omega (arith, s .low)) t in absurd (omega (arith, slot-found r i x (s .apart) (p .0) (p .1))))
         (λ f. f))
         below
 
-    -- so many
+    -- as many as next less that slot
     pub count-known : length (lookedBelow xs ms x next) ≡ next - slotFrom (marksIn ms) xs x
     count-known = ap length looked-known ∙ length-down slot (next - slot)
 
@@ -93,6 +94,6 @@ module _ (xs ms : List ℕ) (next x : ℕ) (s : Searched xs ms next) where
             looked-down xs ms x 0 (suc n) (unfold lookedBelow in rw (none 0 (omega arith))) (λ i a l. none i (omega arith)) (omega arith)
             ∙ ap (λ (m : ℕ). reverse (from 0 m)) b
 
-    -- so many
+    -- as many as next
     pub count-new : length (lookedBelow xs ms x next) ≡ next
     count-new = ap length looked-new ∙ length-down 0 next

@@ -161,19 +161,12 @@ slot-none (kept y r) x h =
 pub slot-absent : {ms xs : List ℕ} → Row ms xs → (x : ℕ) → mem x (marked ms xs) ≡ false → slotFrom ms xs x ≡ length ms
 slot-absent r x h = slot-none r x (λ k m e. clash (mem-marked r k x m e) h)
 
--- the slot of a marked extent has a mark
-pub slot-marked : {ms xs : List ℕ} → Row ms xs → (x : ℕ) → mem x (marked ms xs) ≡ true → getD ms (slotFrom ms xs x) 0 ≡ 1
+-- the slot of a marked extent has a mark, and holds it
+pub slot-marked : {ms xs : List ℕ} → Row ms xs → (x : ℕ) → mem x (marked ms xs) ≡ true → (getD ms (slotFrom ms xs x) 0 ≡ 1) × (getD xs (slotFrom ms xs x) 0 ≡ x)
 unfolding slotFrom marked mem
 slot-marked none x h = clash h refl
 slot-marked (bare r) x h = slot-marked r x h
-slot-marked (kept y r) x h = by-test (eqb x y) (λ e. simp e) (λ e. simp e (slot-marked r x (simp e at h)))
-
--- and holds it
-pub slot-holds : {ms xs : List ℕ} → Row ms xs → (x : ℕ) → mem x (marked ms xs) ≡ true → getD xs (slotFrom ms xs x) 0 ≡ x
-unfolding slotFrom marked mem
-slot-holds none x h = clash h refl
-slot-holds (bare r) x h = slot-holds r x h
-slot-holds (kept y r) x h = by-test (eqb x y) (λ e. simp e (sym (eqb-true x y e))) (λ e. simp e (slot-holds r x (simp e at h)))
+slot-marked (kept y r) x h = by-test (eqb x y) (λ e. simp e (refl, sym (eqb-true x y e))) (λ e. simp e (slot-marked r x (simp e at h)))
 
 -- the depth of x is one more than the marks behind its slot
 pub depth-slot : {ms xs : List ℕ} → Row ms xs → (x : ℕ) → distinct (marked ms xs) ≡ true → mem x (marked ms xs) ≡ true

@@ -127,14 +127,14 @@ module _ (s : Session) (t : List ℕ) (g : Stands s t) (x : ℕ) (short : eqb (l
   trace-look = accepted-look s (stands-known s t g .kept) x (read-accepted s t g x short few)
 
   -- the session after the read, and what it has read
-  abbrev after : Session
-  after = readOf s x .session
+  abbrev once : Session
+  once = readOf s x .session
 
   abbrev longer : List ℕ
   longer = t ++ (x ∷ [])
 
   -- the read leaves its mark in the newest slot
-  read-newest : NewestMarked after
+  read-newest : NewestMarked once
   read-newest =
       let m : Roomed s (roomed s) = kept-roomed s (stands-known s t g .kept) in
       subst (λ (r : Step). NewestMarked (r .session)) (sym (read-accepted s t g x short few)) (taken-newest (roomed s) (m .kept) x (m .room))
@@ -142,11 +142,11 @@ module _ (s : Session) (t : List ℕ) (g : Stands s t) (x : ℕ) (short : eqb (l
   -- so one more of the same extent looks at one slot
   pub read-again : eqb (length (t ++ (x ∷ []))) maxReads ≡ false → slotsLooked (readOf (readOf s x .session) x .answer) ≡ 1
   read-again more =
-      let h : Stands after longer = read-stands s t g x short few in
-      let k : Kept after = stands-known after longer h .kept in
-      let m : Roomed after (roomed after) = kept-roomed after k in
+      let h : Stands once longer = read-stands s t g x short few in
+      let k : Kept once = stands-known once longer h .kept in
+      let m : Roomed once (roomed once) = kept-roomed once k in
       let old : mem x longer ≡ true = mem-append x t (x ∷ []) ∙ rw (mem-head x []) (or-true (mem x t)) in
-      let top : stackOf after ≡ x ∷ remove x (stack t) = h .stacked ∙ stack-snoc t x ∙ unfold touch in refl in
-      ap slotsTold (read-accepted after longer h x more (rw old))
-      ∙ taken-told (roomed after) (m .kept) x
-      ∙ newest-one (roomed after) (m .kept) x (remove x (stack t)) (roomed-newest after k read-newest) (m .stacked ∙ top)
+      let top : stackOf once ≡ x ∷ remove x (stack t) = h .stacked ∙ stack-snoc t x ∙ unfold touch in refl in
+      ap slotsTold (read-accepted once longer h x more (rw old))
+      ∙ taken-told (roomed once) (m .kept) x
+      ∙ newest-one (roomed once) (m .kept) x (remove x (stack t)) (roomed-newest once k read-newest) (m .stacked ∙ top)

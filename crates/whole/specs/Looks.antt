@@ -17,7 +17,7 @@ lookedAlong s (x ∷ xs) = lookedAt (roomed s) x ∷ lookedAlong (readOf s x .se
 -- what a read of x looks at after the log t
 pub record Looked (t : List ℕ) (x : ℕ) : Type 0 where
   -- x has a mark exactly where t has a read of it
-  pub marked : mem x (stackOf (sessionAfter fresh t)) ≡ mem x t
+  pub has-mark : mem x (stackOf (sessionAfter fresh t)) ≡ mem x t
   -- the slots from the newest down to that mark, or all below next
   pub look : Look (sessionAfter fresh t) x
   -- one where x was read last
