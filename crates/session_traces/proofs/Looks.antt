@@ -1,6 +1,7 @@
 -- The slots that a read looks at: of every sound session, and of one that has read a trace.
 use Prim.Native.Nat.{ℕ, zero, suc, _-_, _≤_, _<_}
 use mathlib.Core.Path.{_≡_, refl, sym, ap, subst, _∙_}
+use mathlib.Core.Logic.{_↔_}
 use mathlib.Core.List.{List, [], _∷_, _++_}
 use mathlib.Core.Bool.{true, false, or-true}
 use native.Mathlib.Omega.{arith}
@@ -21,9 +22,9 @@ use Rattle.reuse.proofs.Lists.{by-test, eqb-same, mem-head, mem-append}
 use Rattle.reuse.proofs.Stack.{stack-snoc}
 use Rattle.reuse.proofs.Depth.{depth-present, depth-absent}
 use Rattle.reuse.proofs.Sums.{free-at, at-le-sum}
-use Rattle.session_marks.proofs.Marks.{slot-found}
+use Rattle.session_marks.proofs.Marks.{slot-found, slot-marked}
 use Rattle.session.proofs.Sound.{Kept, true-sound}
-use Rattle.session.proofs.Taken.{Roomed, kept-roomed, gathered-marks, entered-marks, moved-marks, slot-below, slot-depth}
+use Rattle.session.proofs.Taken.{Roomed, kept-roomed, gathered-marks, entered-marks, moved-marks, stack-mem, slot-below, slot-depth}
 use Rattle.session.proofs.Looked.{looked-old, count-old, looked-absent, count-absent}
 use Rattle.session_traces.proofs.Stands.{Stands, stands-known}
 use Rattle.session_traces.proofs.Read.{over, read-accepted, read-stands}
@@ -49,6 +50,13 @@ module _ (s : Session) (k : Kept s) (x : ℕ) where
   looked-most : length (lookedAt s x) ≤ s .next
   looked-most = by-test (mem x (stackOf s)) (λ m. omega (arith, count-old s k x m)) (λ m. omega (arith, count-absent s k x m))
 
+-- the slot of a known extent, and no other, is marked and holds it
+only-mark : (s : Session) → Kept s → (x : ℕ) → mem x (stackOf s) ≡ true → (i : ℕ) → ((getD (marks s) i 0 ≡ 1) × (getD (s .slots) i 0 ≡ x)) ↔ (i ≡ slotOf s x)
+unfolding slotOf
+only-mark s k x old i =
+    let r = k .rows .row in
+    (λ p. sym (slot-found r i x (k .rows .apart) (p .0) (p .1)), λ e. rw e (slot-marked r x (sym (stack-mem s k x) ∙ old)))
+
 -- what an accepted read looks at
 accepted-look : (s : Session) → Kept s → (x : ℕ) → readOf s x ≡ taken (roomed s) x → Look s x
 accepted-look s k x is =
@@ -57,7 +65,7 @@ accepted-look s k x is =
     record {
       tells = told;
       known = λ old. looked-old (roomed s) (m .kept) x (ap (mem x) (m .stacked) ∙ old);
-      one-mark = λ i mark e. unfold slotOf in sym (slot-found (m .kept .rows .row) i x (m .kept .rows .apart) mark e);
+      one-mark = λ old i. only-mark (roomed s) (m .kept) x (ap (mem x) (m .stacked) ∙ old) i;
       new = λ absent. looked-absent (roomed s) (m .kept) x (ap (mem x) (m .stacked) ∙ absent);
       most = omega (arith, told, looked-most (roomed s) (m .kept) x);
       room = m .room;
