@@ -7,8 +7,8 @@ use reuse::MAX_READS;
 // The place of the sum over all marks.
 const ROOT: usize = reuse::SUMS - 1;
 
-// Why a read of the extent x is refused: 7, 8 or 9; 0 where it is accepted. No slot is looked at: where there are as many
-// extents as the limit, F is all of its row.
+// Why a read of the extent x is refused: 7, 8 or 9; 0 where it is accepted. For 9 the extent is looked for in F and not
+// among the slots: where there are as many extents as the limit, F is all of its row.
 pub fn refusal<'a>(
     first: &'a [u32],
     hist: &'a [u32],
