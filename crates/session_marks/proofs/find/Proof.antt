@@ -13,7 +13,7 @@ use Rattle.session_marks.proofs.find.Tie as tie
 
 abbrev Inv-loop : tie.InvT-loop
 Inv-loop slots sums next x looked₀ i₀ looked i =
-    (length slots ≡ slotCount) × (length sums ≡ sumCount) × (looked + i ≤ slotCount) × (goingOn slots sums x i looked ≡ foundIn slots sums next x)
+    (length slots ≡ slotCount) × (length sums ≡ sumCount) × (goingOn slots sums x i looked ≡ foundIn slots sums next x) × (looked + i ≤ slotCount)
 
 abbrev μ-loop : tie.MeasureT-loop
 μ-loop slots sums next x looked₀ i₀ looked i = i
@@ -31,7 +31,7 @@ loop-holds : tie.Need-loop-holds Inv-loop μ-loop
 loop-holds c =
     let p = sym (c .before .before .paired .ensures) ∙ not-false _ (c .before .if1 .left) in
     let w = pair-wide _ _ p in
-    (w .0, w .1, omega arith, sym (found-pair _ _ _ _ p (c .if2 .left)))
+    (w .0, w .1, sym (found-pair _ _ _ _ p (c .if2 .left)), omega arith)
 
 sub-i : tie.Need-sub-i Inv-loop μ-loop
 sub-i c = omega arith
@@ -54,7 +54,7 @@ shared-slice-read-if4 c = omega arith
 returns-3 : tie.Need-returns-3 Inv-loop μ-loop
 returns-3 c =
     let l = c .before .before .before .before .before .loop in
-    sym (search-hit _ _ _ (l .i) (l .looked) (omega arith) (c .before .before .if3 .taken) (c .if4 .taken)) ∙ l .inv .3
+    sym (search-hit _ _ _ (l .i) (l .looked) (omega arith) (c .before .before .if3 .taken) (c .if4 .taken)) ∙ l .inv .2
 
 loop-less : tie.Need-loop-less Inv-loop μ-loop
 loop-less c = omega arith
@@ -62,7 +62,7 @@ loop-less c = omega arith
 loop-again : tie.Need-loop-again Inv-loop μ-loop
 loop-again c =
     let l = c .before .before .before .before .before .loop in
-    (l .inv .0, l .inv .1, omega arith, sym (search-bare _ _ _ (l .i) (l .looked) (omega arith) (c .if4 .left)) ∙ l .inv .3)
+    (l .inv .0, l .inv .1, sym (search-bare _ _ _ (l .i) (l .looked) (omega arith) (c .if4 .left)) ∙ l .inv .2, omega arith)
 
 loop-less-2 : tie.Need-loop-less-2 Inv-loop μ-loop
 loop-less-2 c = omega arith
@@ -70,10 +70,10 @@ loop-less-2 c = omega arith
 loop-again-2 : tie.Need-loop-again-2 Inv-loop μ-loop
 loop-again-2 c =
     let l = c .before .before .before .loop in
-    (l .inv .0, l .inv .1, omega arith, sym (search-other _ _ _ (l .i) (l .looked) (omega arith) (c .if3 .left)) ∙ l .inv .3)
+    (l .inv .0, l .inv .1, sym (search-other _ _ _ (l .i) (l .looked) (omega arith) (c .if3 .left)) ∙ l .inv .2, omega arith)
 
 returns-4 : tie.Need-returns-4 Inv-loop μ-loop
-returns-4 c = sym (search-none _ _ _ (c .before .loop .i) (c .before .loop .looked) (omega arith)) ∙ c .before .loop .inv .3
+returns-4 c = sym (search-none _ _ _ (c .before .loop .i) (c .before .loop .looked) (omega arith)) ∙ c .before .loop .inv .2
 
 pub find-spec : {M : Type 1} → statement M
 find-spec =
