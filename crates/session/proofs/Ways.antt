@@ -32,16 +32,16 @@ module _ (s : Session) (k : Kept s) where
 
   module _ (x : ℕ) where
     -- an extent with no slot is not in the stack
-    pub not-held : slotOf s x ≡ slotCount → mem x (stackOf s) ≡ false
+    not-held : slotOf s x ≡ slotCount → mem x (stackOf s) ≡ false
     not-held e = by-test (mem x (stackOf s)) (λ t. absurd (omega (arith, slot-below s k x t, k .rows .low))) (λ f. f)
 
     -- an extent that is not in the stack has no slot
-    pub no-slot : mem x (stackOf s) ≡ false → slotOf s x ≡ slotCount
+    no-slot : mem x (stackOf s) ≡ false → slotOf s x ≡ slotCount
     unfolding slotOf
     no-slot f = slot-absent (k .rows .row) x (sym (stack-mem s k x) ∙ f) ∙ k .rows .wide
 
     -- an extent with a slot is in the stack
-    pub is-held : (slotOf s x ≡ slotCount → ⊥) → mem x (stackOf s) ≡ true
+    is-held : (slotOf s x ≡ slotCount → ⊥) → mem x (stackOf s) ≡ true
     is-held n = by-test (mem x (stackOf s)) (λ t. t) (λ f. absurd (n (no-slot f)))
 
     -- its mark can move

@@ -99,7 +99,7 @@ module _ (s : Session) (t : List ℕ) (g : Stands s t) (x : ℕ) where
   taken-is = rw (known-roomed s t (stands-known s t g) .stacked)
 
   -- x is one extent too many for the session where it is for the trace
-  pub too-many : tooMany s x ≡ over t x
+  too-many : tooMany s x ≡ over t x
   unfolding tooMany
   too-many = rw (ap (mem x) (g .stacked) ∙ mem-stack x t, known-extents s t (stands-known s t g))
 
