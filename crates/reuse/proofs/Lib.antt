@@ -14,5 +14,6 @@ pub mod Monoid
 pub mod Formed
 pub mod Prefixes
 pub mod Misses
+pub mod Servable
 pub mod Traces
 pub mod Examples

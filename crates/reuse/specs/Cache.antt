@@ -1,10 +1,10 @@
 -- A read cache of one size (the papers' store), defined with no stack and no distance.
-use Prim.Native.Nat.{ℕ, zero, suc}
+use Prim.Native.Nat.{ℕ, zero, suc, _-_}
 use mathlib.Core.List.{List, [], _∷_, _++_}
 use mathlib.Core.Bool.{Bool, cond, not}
 use lib.Dec.{eqb, ltb}
 use lib.ListN.{length}
-use Rattle.reuse.specs.Lists.{mem, remove, count}
+use Rattle.reuse.specs.Lists.{mem, remove, firsts, count}
 
 -- when x was last read, counted from 1; 0 where it was not read
 unfoldable pub lastRead : List ℕ → ℕ → ℕ
@@ -52,3 +52,7 @@ cacheMisses c t = count not (cacheHits c t)
 -- the hits of a whole trace, counted
 unfoldable pub hitCount : ℕ → List ℕ → ℕ
 hitCount c t = count (λ b. b) (cacheHits c t)
+
+-- the reads of a whole trace that some size could have served: reads less cold reads, one for each extent
+unfoldable pub servable : List ℕ → ℕ
+servable t = length t - length (firsts t)

@@ -1,5 +1,5 @@
 -- The summary of a trace as words, the test of words handed in, and the join of two summaries.
-use Prim.Native.Nat.{ℕ, suc, _+_, _*_}
+use Prim.Native.Nat.{ℕ, suc, _+_, _-_, _*_}
 use mathlib.Core.List.{List, [], _∷_, _++_, map, reverse}
 use mathlib.Core.Bool.{Bool, _&&_}
 use lib.Dec.{eqb, leb}
@@ -58,6 +58,10 @@ hitsOf w c = sum (take c (countsOf w))
 -- cold reads plus reads of distance above c
 unfoldable pub missesOf : List ℕ → ℕ → ℕ
 missesOf w c = extentsOf w + sum (drop c (countsOf w))
+
+-- the reads that some size could have served: reads less cold reads, of which there are v
+unfoldable pub servableOf : List ℕ → ℕ
+servableOf w = readsOf w - extentsOf w
 
 -- F of the join: F of A, then those of F of B not in A
 unfoldable pub joinedFirst : List ℕ → List ℕ → List ℕ

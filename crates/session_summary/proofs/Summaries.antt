@@ -9,13 +9,15 @@ use lib.Seq.{length-take-le, take-at, take-all, take-take}
 use borrow.Author.Tests.{le-leb}
 use Rattle.reuse.specs.Lists.{sum}
 use Rattle.reuse.specs.Cache.{cacheMisses}
-use Rattle.reuse.specs.Summary.{words, summaryOf, readsOf, extentsOf, countsOf, hitsOf, missesOf}
+use Rattle.reuse.specs.Summary.{words, summaryOf, readsOf, extentsOf, countsOf, hitsOf, missesOf, servableOf}
 use Rattle.reuse.specs.Limits.{maxExtents, slotCount}
 use Rattle.reuse_rows.specs.Rows.{padded}
 use Rattle.summary_calls.specs.declared.Written.{Written}
 use Rattle.summary_calls.specs.declared.MissCount.the-variants.{Misses}
 use Rattle.summary_calls.specs.declared.ShareAnswer.the-variants.{Answered}
 use Rattle.summary_calls.specs.Calls.{Wrote, wrote, refused, wordsCall, shareAt}
+use Rattle.summary_calls.specs.Shares.{Between, Full}
+use Rattle.summary_calls.proofs.Shares.{given-share, share-between, share-full}
 use Rattle.session.specs.declared.Session.{Session}
 use Rattle.session_sums.specs.Sums.{filled}
 use Rattle.session_marks.specs.Marks.{marked, gatheredRow}
@@ -77,6 +79,15 @@ module _ (s : Session) (k : Kept s) where
   unfolding hitsOf missesOf
   hits-reads c = rw (extents-session, counts-session) (omega (arith, sum-split c (take (extents s) (s .hist)), hist-total s k))
 
+  -- the reads that some size could have served are all but one for each mark
+  pub servable-session : servableOf (sessionWords s) ≡ s .reads - root s
+  unfolding servableOf
+  servable-session = rw (reads-session, extents-session, kept-root s k)
+
+  -- there are no more marks than reads
+  pub root-reads : root s ≤ s .reads
+  root-reads = omega (arith, kept-root s k, hist-total s k)
+
 -- so no more hits than reads
 pub hits-few : (s : Session) (k : Kept s) (c n : ℕ) → n ≡ hitsOf (sessionWords s) c → n ≤ s .reads
 hits-few s k c n e = omega (arith, hits-reads s k c)
@@ -106,6 +117,24 @@ misses-cache s t c g = misses-trace s t c g ∙ ap Misses (summary-cache c t)
 pub share-trace : (s : Session) (t : List ℕ) (c : ℕ) → Stands s t → shareCall s c ≡ Answered (shareAt (summaryOf t) c)
 unfolding shareCall
 share-trace s t c g = simp (g .is-sound, session-summary s t g)
+
+-- the shares of a session, whether or not a log has it
+module _ (s : Session) (w : Wide (s .first) (s .hist) (s .slots) (s .sums)) (c : ℕ) where
+  -- between 0 and 1
+  pub session-between : Between (shareCall s c)
+  unfolding shareCall servableOf missesOf
+  session-between x e =
+      let q = given-share (sound s) (shareAt (sessionWords s) c) 7 x e in
+      let k = rows-of s w (q .0) in
+      share-between (hitsOf (sessionWords s) c) (servableOf (sessionWords s)) (omega (arith, hits-reads s k c, reads-session s k)) x (q .1)
+
+  -- exactly 1 at a size of at least v
+  pub session-full : extents s ≤ c → Full (shareCall s c)
+  unfolding shareCall
+  session-full l x e =
+      let q = given-share (sound s) (shareAt (sessionWords s) c) 7 x e in
+      let k = rows-of s w (q .0) in
+      share-full (hitsOf (sessionWords s) c) (servableOf (sessionWords s)) (omega (arith, hits-large s k c l, hist-total s k, kept-root s k, servable-session s k)) x (q .1)
 
 -- a session that is not sound
 pub unsound-way : (s : Session) (o : List ℕ) → sound s ≡ false → summaryCall s o ≡ refused 7 o

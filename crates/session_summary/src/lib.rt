@@ -52,14 +52,14 @@ pub fn misses(s: Session, size: u32) -> MissCount
     MissCount::Misses(reads - hits(s, size))
 }
 
-// The share of hits of a cache of this size, or the refusal.
+// The share of hits of a cache of this size, of the reads that some size could have served, or the refusal.
 pub fn share(s: Session, size: u32) -> ShareAnswer
     ensures { λ r. ⌜ r ≡ shareCall s size ⌝ }
 {
     if !s.sound() {
         return ShareAnswer::Refused(7);
     }
-    let reads = s.reads;
+    let servable = s.reads - s.sums[ROOT];
     let hit = hits(s, size);
-    ShareAnswer::Answered(summary_counts::share_of(hit, reads))
+    ShareAnswer::Answered(summary_counts::share_of(hit, servable))
 }

@@ -6,7 +6,7 @@ use mathlib.Core.List.{List}
 use mathlib.Core.Bool.{true, false, and-false}
 use lib.Dec.{eqb}
 use lib.ListN.{length, take, drop, getD}
-use lib.Seq.{take-all, take-take}
+use lib.Seq.{take-take}
 use borrow.Author.Tests.{eqb-true}
 use Rattle.reuse.specs.Limits.{maxExtents}
 use Rattle.reuse.specs.Lists.{sum, distinct, allIn}
@@ -16,6 +16,7 @@ use Rattle.reuse.proofs.Sizes.{in-all}
 use Rattle.reuse.proofs.Words.{counts-length, first-length, recent-length}
 use Rattle.reuse.proofs.Formed.{Formed, formed, well-formed}
 use Rattle.reuse.proofs.Misses.{hits-misses}
+use Rattle.reuse.proofs.Servable.{hits-whole}
 use Rattle.summary_calls.specs.Shapes.{Shaped, Given}
 
 -- words that are not well formed
@@ -99,8 +100,8 @@ module _ (w : List ℕ) (h : wellFormed w ≡ true) where
 
   -- all of H for a size of at least v
   pub hits-all : (c : ℕ) → getD w 1 0 ≤ c → hitsOf w c ≡ sum (countsOf w)
-  unfolding hitsOf
-  hits-all c l = ap sum (take-all c (countsOf w) (omega (arith, counts-size)))
+  unfolding extentsOf
+  hits-all c l = hits-whole w (formed w h) c l
 
 module _ (w : List ℕ) (g : Given w) where
   -- R has v words

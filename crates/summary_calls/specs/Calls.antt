@@ -7,7 +7,7 @@ use lib.Ieee.{binary64, round}
 use lib.ListN.{length, drop}
 use Rattle.reuse.specs.Limits.{maxReads, maxExtents}
 use Rattle.reuse.specs.Lists.{firsts}
-use Rattle.reuse.specs.Summary.{words, wellFormed, readsOf, hitsOf, missesOf, joinedFirst, joinOf, summaryOf}
+use Rattle.reuse.specs.Summary.{words, wellFormed, readsOf, hitsOf, missesOf, servableOf, joinedFirst, joinOf, summaryOf}
 use Rattle.summary_calls.specs.declared.Written.{Written}
 use Rattle.summary_calls.specs.declared.Written.the-variants.{Words, Refused}
 use Rattle.summary_calls.specs.declared.MissCount.{MissCount}
@@ -60,13 +60,14 @@ traceCall t buffer =
 unfoldable pub missesCall : List ℕ → ℕ → MissCount
 missesCall w c = cond (wellFormed w) (Misses (missesOf w c)) (NoMisses 5)
 
--- 'no reads' for no reads only; else the exact quotient, rounded once to a binary64, to nearest, ties to even
+-- hits by the reads that some size could have served: 'no reads' where there are none, else the exact quotient, rounded
+-- once to a binary64, to nearest, ties to even
 unfoldable pub shareOf : ℕ → ℕ → HitShare
-shareOf hits reads = cond (eqb reads 0) NoReads (Share (round binary64 false hits reads))
+shareOf hits servable = cond (eqb servable 0) NoReads (Share (round binary64 false hits servable))
 
 -- the hit share at size c of a summary's words
 abbrev pub shareAt : List ℕ → ℕ → HitShare
-shareAt w c = shareOf (hitsOf w c) (readsOf w)
+shareAt w c = shareOf (hitsOf w c) (servableOf w)
 
 -- the hit share at size c, or 5
 unfoldable pub shareCall : List ℕ → ℕ → ShareAnswer

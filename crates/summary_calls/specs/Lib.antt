@@ -1,2 +1,3 @@
 pub mod Calls
 pub mod Shapes
+pub mod Shares

@@ -11,7 +11,7 @@ pub enum MissCount {
     Refused(u32),
 }
 
-// The hits of a cache by all reads, or that there were no reads.
+// The hits of a cache by the reads that some size could have served, or that there were no such reads.
 pub enum HitShare {
     Share(f64),
     NoReads,

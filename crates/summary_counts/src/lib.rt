@@ -18,7 +18,7 @@ pub fn misses(words: &[u32], size: u32) -> MissCount
     MissCount::Misses(words[0] - hits(words, size))
 }
 
-// The share of hits in a cache of this size.
+// The share of hits in a cache of this size, of the reads that some size could have served: of all but the cold ones.
 pub fn share(words: &[u32], size: u32) -> ShareAnswer
     ensures { λ r. ⌜ r ≡ shareCall (now (words .entry)) size ⌝ }
 {
@@ -26,18 +26,19 @@ pub fn share(words: &[u32], size: u32) -> ShareAnswer
         return ShareAnswer::Refused(5);
     }
     let hits = hits(words, size);
-    ShareAnswer::Answered(share_of(hits, words[0]))
+    let servable = words[0] - words[1];
+    ShareAnswer::Answered(share_of(hits, servable))
 }
 
-// Hits by reads, both whole numbers: one division, rounded once.
-pub fn share_of(hits: u32, reads: u32) -> HitShare
-    ensures { λ r. ⌜ r ≡ shareOf hits reads ⌝ }
+// Hits by the reads that some size could have served, both whole numbers: one division, rounded once.
+pub fn share_of(hits: u32, servable: u32) -> HitShare
+    ensures { λ r. ⌜ r ≡ shareOf hits servable ⌝ }
 {
-    if reads == 0 {
+    if servable == 0 {
         return HitShare::NoReads;
     }
     let part = hits as f64;
-    let all = reads as f64;
+    let all = servable as f64;
     HitShare::Share(part / all)
 }
 

@@ -60,9 +60,13 @@ notedOf w r = cond (soundOf w) (cond (takes r) (counts w r) (refused w 2)) (refu
 unfoldable pub missesCall : Watch → MissCount
 missesCall w = cond (soundOf w) (Misses (w .reads - w .hits)) (NoMisses 7)
 
+-- the reads that some size could have served: reads less cold reads
+abbrev pub servableOf : Watch → ℕ
+servableOf w = w .reads - w .cold
+
 -- the hit share, or 7
 unfoldable pub shareCall : Watch → ShareAnswer
-shareCall w = cond (soundOf w) (Answered (shareOf (w .hits) (w .reads))) (NoShare 7)
+shareCall w = cond (soundOf w) (Answered (shareOf (w .hits) (servableOf w))) (NoShare 7)
 
 -- what the watch takes of a session's answer: of a cold one not its number, of none the sums read or the slots looked at
 abbrev pub heardOf : Answer → Heard

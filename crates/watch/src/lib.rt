@@ -153,14 +153,15 @@ pub fn misses(w: Watch) -> MissCount
     MissCount::Misses(w.reads - w.hits)
 }
 
-// The hit share.
+// The hit share: hits by the reads that some size could have served, reads less cold reads.
 pub fn share(w: Watch) -> ShareAnswer
     ensures { λ r. ⌜ r ≡ shareCall w ⌝ }
 {
     if !sound(w) {
         return ShareAnswer::Refused(7);
     }
-    ShareAnswer::Answered(summary::share_of(w.hits, w.reads))
+    let servable = w.reads - w.cold;
+    ShareAnswer::Answered(summary::share_of(w.hits, servable))
 }
 
 // What the watch takes of a session's answer.

@@ -7,16 +7,16 @@ use lib.ListN.{length}
 use Rattle.reuse.specs.Limits.{maxExtents}
 use Rattle.reuse.specs.Cache.{hitCount}
 use Rattle.reuse.specs.Lru.{Reuse, reuses}
-use Rattle.reuse.specs.Summary.{summaryOf, readsOf, hitsOf, wellFormed}
+use Rattle.reuse.specs.Summary.{summaryOf, hitsOf, wellFormed}
 use Rattle.reuse.specs.Traces.{Within}
 use Rattle.reuse.proofs.Formed.{summary-formed, summary-well-formed}
-use Rattle.reuse.proofs.Words.{reads-summary}
 use Rattle.reuse.proofs.Newcomers.{cold-count, trace-up-to}
 use Rattle.reuse.proofs.Misses.{cache-hits, summary-cache, summary-hits}
+use Rattle.reuse.proofs.Servable.{servable-summary}
 use Rattle.reuse_rows.specs.Rows.{putAt}
 use Rattle.summary_calls.specs.declared.MissCount.the-variants.{Misses}
 use Rattle.summary_calls.specs.declared.ShareAnswer.the-variants.{Answered}
-use Rattle.summary_calls.specs.Calls.{missesCall, shareOf, shareCall}
+use Rattle.summary_calls.specs.Calls.{missesCall, shareAt, shareCall}
 use Rattle.session.specs.declared.Answer.{Answer}
 use Rattle.session.specs.declared.Answer.the-variants.{Cold, Distance, Refused}
 use Rattle.session.specs.Sessions.{fresh}
@@ -59,8 +59,8 @@ module _ (c : ℕ) (t : List ℕ) (w : Within t) where
   words-hits = summary-hits c t (summary-formed t (w .reads) (w .extents)) ∙ sym (cache-hits c t)
 
   -- so is their share
-  share-words : Answered (shareOf (hitsOf (summaryOf t) c) (readsOf (summaryOf t))) ≡ cacheShare c t
-  share-words = rw (words-hits, reads-summary t)
+  share-words : Answered (shareAt (summaryOf t) c) ≡ cacheShare c t
+  share-words = rw (words-hits, servable-summary t)
 
   -- the watch hears the trace's answers
   heard-trace : watching (newOf c) (answersOf fresh t) ≡ watchAfter (newOf c) (reuses [] t)

@@ -2,15 +2,23 @@
 use Prim.Native.Nat.{ℕ}
 use mathlib.Core.Path.{_≡_, refl, sym, ap, _∙_}
 use native.Mathlib.Omega.{arith}
+use mathlib.Core.Bool.{true, false}
+use lib.Dec.{leb}
+use borrow.Author.Tests.{leb-true}
+use lib.IntN.{negsuc}
+use lib.Ieee.{binary64, fin, round}
 use lib.ListN.{length}
 use mathlib.Core.List.{List, [], _∷_}
 use Rattle.reuse.specs.Lists.{mem, allIn, distinct, remove, inside, outside, before, firsts, cleanup, from, sum, count}
 use Rattle.reuse.specs.Lru.{depth, touch, stack, reuses, since, distance, distances, countAt}
-use Rattle.reuse.specs.Cache.{lastRead, oldest, evict, admit, hits, cacheHits, cacheMisses, hitCount}
-use Rattle.reuse.specs.Summary.{words, histogram, summaryOf, readsOf, extentsOf, firstOf, recentOf, countsOf, wellFormed, hitsOf, missesOf, joinedFirst, joinedRecent, shared, across, countFor, joinedCount, joinedCounts, joinOf}
+use Rattle.reuse.specs.Cache.{lastRead, oldest, evict, admit, hits, cacheHits, cacheMisses, hitCount, servable}
+use Rattle.reuse.specs.Summary.{words, histogram, summaryOf, readsOf, extentsOf, firstOf, recentOf, countsOf, wellFormed, hitsOf, missesOf, servableOf, joinedFirst, joinedRecent, shared, across, countFor, joinedCount, joinedCounts, joinOf}
+use Rattle.reuse.specs.Limits.{maxReads, maxExtents}
+use Rattle.reuse.specs.Traces.{Within}
 use Rattle.reuse.proofs.Stack.{stack-law}
 use Rattle.reuse.proofs.Words.{reads-summary, first-summary, recent-summary}
-use Rattle.summary_calls.specs.declared.HitShare.the-variants.{NoReads}
+use Rattle.summary_calls.specs.declared.HitShare.{HitShare}
+use Rattle.summary_calls.specs.declared.HitShare.the-variants.{Share, NoReads}
 use Rattle.summary_calls.specs.declared.ShareAnswer.the-variants.{Answered}
 use Rattle.summary_calls.specs.Calls.{wrote, joinCall, missesCall, shareOf, shareCall}
 use Rattle.reuse_rows.specs.Rows.{blank}
@@ -20,17 +28,12 @@ use Rattle.session_marks.specs.Marks.{marked, tidy, slotFrom, lookedBelow}
 use Rattle.session_soundness.specs.Soundness.{soundRows}
 use Rattle.session.specs.Sessions.{fresh, marks, extents, stackOf, firstRow, sound}
 use Rattle.session.specs.Reads.{gathered, roomed, slotOf, lookedAt, moved, entered, taken, tooMany, readOf}
-use Rattle.session_summary.specs.Summaries.{sessionWords, summaryCall, shareCall as sessionShare}
-use Rattle.session_traces.proofs.Stands.{fresh-stands}
-use Rattle.session_summary.proofs.Summaries.{share-trace}
+use Rattle.session_summary.specs.Summaries.{sessionWords, summaryCall}
 use Rattle.whole.specs.Runs.{sessionAfter, answersOf, grouped}
 use Rattle.whole.specs.Looks.{lookedAlong}
-use Rattle.whole.specs.Table.{oddWords, Table}
-
--- the share of a new session
-new-share : (c : ℕ) → sessionShare fresh c ≡ Answered NoReads
-unfolding summaryOf words shareOf readsOf firsts
-new-share c = share-trace fresh [] c fresh-stands
+use Rattle.whole.specs.Counts.{cacheShare}
+use Rattle.whole.specs.Table.{SharesAre, five, seven, oddWords, Table}
+use Rattle.whole.proofs.Counts.{counts}
 
 -- a log of two reads, the first of them of 4, and the last too, has one extent
 one-extent : (t : List ℕ) → length t ≡ 2 → firsts t ≡ 4 ∷ 6 ∷ [] → stack t ≡ 4 ∷ 6 ∷ [] → ⊥
@@ -51,9 +54,23 @@ unfolding readsOf firstOf recentOf extentsOf
 no-log t h =
     one-extent t (sym (reads-summary t) ∙ ap readsOf h) (sym (first-summary t) ∙ ap firstOf h) (stack-law t ∙ sym (recent-summary t) ∙ ap recentOf h)
 
--- the rows of the calls and those of the definitions compute
+-- a short log is within the limits
+within : (t : List ℕ) → leb (length t) maxReads ≡ true → leb (length (firsts t)) maxExtents ≡ true → Within t
+within t a b = record { reads = leb-true (length t) maxReads a; extents = leb-true (length (firsts t)) maxExtents b }
+
+-- the share of a log's words is the log's, and so are those of the session and the watch
+told : (c : ℕ) (t : List ℕ) (s : HitShare) → Within t → shareCall (summaryOf t) c ≡ Answered s → cacheShare c t ≡ Answered s → SharesAre c t s
+told c t s w e f =
+    record { of-words = e; of-session = counts c t w .session-share ∙ f; of-watch = counts c t w .watch-share ∙ f }
+
+-- 3 by 4 is a float
+three-quarters : round binary64 false 3 4 ≡ fin false 3 (negsuc 1)
+unfolding round
+three-quarters = refl
+
+-- the rows of the calls and those of the definitions compute; the shares of the session and the watch are the log's
 pub table : Table
-unfolding distances distance since afterCall answersOf sessionAfter grouped summaryCall sessionWords wrote joinCall missesCall shareCall shareOf wellFormed words summaryOf histogram joinOf joinedFirst joinedRecent joinedCounts joinedCount countFor shared across hitsOf missesOf readsOf extentsOf firstOf recentOf countsOf mem allIn distinct remove inside outside before firsts cleanup from sum count countAt reuses touch cacheMisses cacheHits hitCount hits admit evict oldest lastRead readOf sound soundRows extents firstRow same blank marks sumsOf pairs tidy stackOf marked roomed gathered slotOf slotFrom taken tooMany depth moved entered zeros lookedAlong lookedAt lookedBelow
+unfolding distances distance since afterCall answersOf sessionAfter grouped summaryCall sessionWords wrote joinCall missesCall shareCall shareOf wellFormed words summaryOf histogram joinOf joinedFirst joinedRecent joinedCounts joinedCount countFor shared across hitsOf missesOf servableOf readsOf extentsOf firstOf recentOf countsOf mem allIn distinct remove inside outside before firsts cleanup from sum count countAt reuses touch cacheMisses cacheHits hitCount servable hits admit evict oldest lastRead readOf sound soundRows extents firstRow same blank marks sumsOf pairs tidy stackOf marked roomed gathered slotOf slotFrom taken tooMany depth moved entered zeros lookedAlong lookedAt lookedBelow
 table = record {
   reads-called = refl;
   sums-called = refl;
@@ -78,6 +95,10 @@ table = record {
   misses-defined = (refl, refl, refl);
   turned-called = refl;
   turned-defined = (refl, refl);
-  share-called = λ c. (refl, new-share c);
+  share-called = λ c. told c [] NoReads (within [] refl refl) refl refl;
   share-defined = λ c. refl;
+  five-called = λ c. told c five NoReads (within five refl refl) refl refl;
+  five-defined = λ c. refl;
+  seven-share-called = told 2 seven (Share (round binary64 false 3 4)) (within seven refl refl) refl refl;
+  seven-share-defined = (refl, three-quarters);
 }

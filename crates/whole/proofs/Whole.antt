@@ -29,6 +29,7 @@ use Rattle.watch_words.proofs.Fed.{taking}
 use Rattle.split_calls.proofs.Refusals.{refusals}
 use Rattle.whole.proofs.Looks.{looked-along, log-looks}
 use Rattle.whole.proofs.Counts.{counts}
+use Rattle.whole.proofs.Shares.{serves, shares, any-shares}
 use Rattle.whole.proofs.Splits.{splits}
 
 -- a cache of this size holds the extent, by what was seen
@@ -80,9 +81,10 @@ runs t w = record {
   distances = distances t w;
   caches = caches t w;
   counts = λ c. counts c t w;
+  shares = shares t w;
 }
 
--- demand 3, the numbers of newcomers after any words, what a watch in words takes, and the split of one store
+-- demand 3, the numbers of newcomers after any words, what a watch in words takes, what a hit share may be, and the split of one store
 pub claim : Claim
 claim = record {
   calls = calls-owed;
@@ -92,6 +94,8 @@ claim = record {
   runs = runs;
   prefixes = λ w reads h. record { next = prefix-newcomer w (formed w h) reads; in-order = prefix-numbers w (formed w h) reads };
   watch-words = taking;
+  serves = serves;
+  any-shares = any-shares;
   split-refusals = refusals;
   splits = splits;
 }

@@ -4,7 +4,7 @@ use mathlib.Core.Path.{_≡_}
 use mathlib.Core.List.{List, [], _∷_, map}
 use lib.ListN.{length}
 use Rattle.reuse.specs.Lists.{firsts}
-use Rattle.reuse.specs.Cache.{cacheMisses, hitCount}
+use Rattle.reuse.specs.Cache.{cacheMisses, hitCount, servable}
 use Rattle.reuse.specs.Summary.{summaryOf}
 use Rattle.reuse_rows.specs.Rows.{putAt}
 use Rattle.summary_calls.specs.declared.MissCount.{MissCount}
@@ -37,11 +37,12 @@ watching w (a ∷ l) = watching (hears w (heardOf a)) l
 abbrev pub cacheMissed : ℕ → List ℕ → MissCount
 cacheMissed c t = Misses (cacheMisses c t)
 
--- its hits by the reads
+-- its hits by the reads that some size could have served
 abbrev pub cacheShare : ℕ → List ℕ → ShareAnswer
-cacheShare c t = Answered (shareOf (hitCount c t) (length t))
+cacheShare c t = Answered (shareOf (hitCount c t) (servable t))
 
--- at size c the summary's words, the session and the watch tell the misses of that cache and its hits by the reads
+-- at size c the summary's words, the session and the watch tell the misses of that cache, and its hits by the reads that
+-- some size could have served
 pub record Counts (c : ℕ) (t : List ℕ) : Type 0 where
   pub words-misses : missesCall (summaryOf t) c ≡ cacheMissed c t
   pub words-share : shareCall (summaryOf t) c ≡ cacheShare c t

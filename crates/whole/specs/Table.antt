@@ -1,14 +1,18 @@
--- The rows that 01 marks with a star, and 02's of newcomers and of slots looked at. Each has two halves: what the calls answer, and what the log's own definitions give.
+-- The rows that 01 marks with a star, and 02's of newcomers, of slots looked at and of hit shares. Each has two halves: what the calls answer, and what the log's own definitions give.
 use Prim.Native.Nat.{ℕ}
 use mathlib.Core.Path.{_≡_}
 use mathlib.Core.List.{List, [], _∷_, _++_, map}
+use mathlib.Core.Bool.{false}
+use lib.IntN.{negsuc}
+use lib.Ieee.{binary64, fin, round}
 use lib.ListN.{replicate}
 use Rattle.reuse.specs.Lru.{cold, at, reuses, distances}
 use Rattle.reuse.specs.Written.{wordOf}
 use Rattle.reuse.specs.Cache.{cacheMisses}
 use Rattle.reuse.specs.Summary.{summaryOf, joinOf}
 use Rattle.summary_calls.specs.declared.MissCount.the-variants.{Misses}
-use Rattle.summary_calls.specs.declared.HitShare.the-variants.{NoReads}
+use Rattle.summary_calls.specs.declared.HitShare.{HitShare}
+use Rattle.summary_calls.specs.declared.HitShare.the-variants.{Share, NoReads}
 use Rattle.summary_calls.specs.declared.ShareAnswer.the-variants.{Answered}
 use Rattle.summary_calls.specs.Calls.{joinCall, missesCall, shareCall}
 use Rattle.after.specs.Calls.{afterCall}
@@ -16,9 +20,10 @@ use Rattle.session.specs.declared.Answer.the-variants.{Cold, Distance}
 use Rattle.session.specs.Sessions.{fresh}
 use Rattle.session.specs.Reads.{sumsRead, slotsLooked}
 use Rattle.session_summary.specs.Summaries.{shareCall as sessionShare}
-use Rattle.whole.specs.Runs.{answersOf, gives, outcome, Grouping, part, joined, grouped}
+use Rattle.watch.specs.Watching.{newOf, shareCall as watchShare}
+use Rattle.whole.specs.Runs.{sessionAfter, answersOf, gives, outcome, Grouping, part, joined, grouped}
 use Rattle.whole.specs.Looks.{lookedAlong}
-use Rattle.whole.specs.Counts.{cacheShare}
+use Rattle.whole.specs.Counts.{watching, cacheShare}
 
 -- the first four of the seven reads
 abbrev pub front : List ℕ
@@ -53,6 +58,16 @@ later = 3 ∷ 3 ∷ 9 ∷ 8 ∷ []
 -- well-formed words that no log has: of two reads the first is of 4 and the last is too, and yet there are two extents
 abbrev pub oddWords : List ℕ
 oddWords = 2 ∷ 2 ∷ 4 ∷ 6 ∷ 4 ∷ 6 ∷ 0 ∷ 0 ∷ []
+
+-- five different extents
+abbrev pub five : List ℕ
+five = 4 ∷ 0 ∷ 8 ∷ 1 ∷ 6 ∷ []
+
+-- this share at size c is what the log's summary, the session that read it and the watch fed with its answers tell
+pub record SharesAre (c : ℕ) (t : List ℕ) (s : HitShare) : Type 0 where
+  pub of-words : shareCall (summaryOf t) c ≡ Answered s
+  pub of-session : sessionShare (sessionAfter fresh t) c ≡ Answered s
+  pub of-watch : watchShare (watching (newOf c) (answersOf fresh t)) ≡ Answered s
 
 -- a part by its reads, its summary in a lent buffer of 20 words
 abbrev pub partOf : List ℕ → Grouping
@@ -99,5 +114,11 @@ pub record Table : Type 0 where
   pub turned-called : grouped (bothOf (1 ∷ 2 ∷ []) (2 ∷ 1 ∷ [])) ≡ gives turnedWords
   pub turned-defined : (joinOf (summaryOf (1 ∷ 2 ∷ [])) (summaryOf (2 ∷ 1 ∷ [])) ≡ turnedWords) × (summaryOf (1 ∷ 2 ∷ 2 ∷ 1 ∷ []) ≡ turnedWords)
   -- the share of an empty log: 'no reads', at every size
-  pub share-called : (c : ℕ) → (shareCall (0 ∷ 0 ∷ []) c ≡ Answered NoReads) × (sessionShare fresh c ≡ Answered NoReads)
+  pub share-called : (c : ℕ) → SharesAre c [] NoReads
   pub share-defined : (c : ℕ) → cacheShare c [] ≡ Answered NoReads
+  -- the share of five different extents too
+  pub five-called : (c : ℕ) → SharesAre c five NoReads
+  pub five-defined : (c : ℕ) → cacheShare c five ≡ Answered NoReads
+  -- the share of the seven reads at 2: 3 by 4, which is a float, 3 * 2 ^ -2
+  pub seven-share-called : SharesAre 2 seven (Share (round binary64 false 3 4))
+  pub seven-share-defined : (cacheShare 2 seven ≡ Answered (Share (round binary64 false 3 4))) × (round binary64 false 3 4 ≡ fin false 3 (negsuc 1))

@@ -3,7 +3,8 @@ use mathlib.Core.Path.{_≡_, sym, _∙_}
 use native.Mathlib.Omega.{arith}
 use mathlib.Core.Bool.{true}
 use borrow.Author.Tests.{not-true, not-false}
-use Rattle.reuse.specs.Summary.{wellFormed, readsOf}
+use Rattle.reuse.specs.Summary.{wellFormed, readsOf, extentsOf, servableOf}
+use Rattle.reuse.proofs.Formed.{formed}
 use Rattle.summary_calls.specs.Calls.{shareCall}
 use Rattle.summary_calls.proofs.Fields.{given, shaped}
 use borrow.Author.Needs.{needs}
@@ -24,17 +25,33 @@ returns c = sym (simp (sym (c .before .well-formed .ensures) ∙ not-true _ (c .
 hits-requires : tie.Need-hits-requires
 hits-requires c κs = given _ (pass c)
 
-shared-slice-read-share-of : tie.Need-shared-slice-read-share-of
-shared-slice-read-share-of c = omega (arith, shaped _ (pass (c .before .before)) .long)
+shared-slice-read-servable : tie.Need-shared-slice-read-servable
+shared-slice-read-servable c = omega (arith, shaped _ (pass (c .before .before)) .long)
+
+shared-slice-read-servable-2 : tie.Need-shared-slice-read-servable-2
+shared-slice-read-servable-2 c = omega (arith, shaped _ (pass (c .before .before .before)) .long)
+
+-- each extent has a cold read, which is a read
+sub-servable : tie.Need-sub-servable
+unfolding readsOf extentsOf
+sub-servable c = omega (arith, formed _ (pass (c .before .before .before)) .total)
 
 share-of-requires : tie.Need-share-of-requires
 share-of-requires c κs = search needs
 
 returns-2 : tie.Need-returns-2
-unfolding shareCall readsOf
-returns-2 c = sym (simp (pass (c .before .before .before)) (cc (c .share-of .ensures, c .before .before .hits .ensures)))
+unfolding shareCall servableOf readsOf extentsOf
+returns-2 c = sym (simp (pass (c .before .before .before .before)) (cc (c .share-of .ensures, c .before .before .before .hits .ensures)))
 
 pub share-spec : {M : Type 1} → statement M
 share-spec =
     tie.close
-    (tie.spec well-formed-requires returns hits-requires shared-slice-read-share-of share-of-requires returns-2)
+    (tie.spec
+    well-formed-requires
+    returns
+    hits-requires
+    shared-slice-read-servable
+    shared-slice-read-servable-2
+    sub-servable
+    share-of-requires
+    returns-2)

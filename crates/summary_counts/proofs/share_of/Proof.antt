@@ -24,7 +24,7 @@ returns-2 : tie.Need-returns-2
 unfolding shareOf
 returns-2 c =
     let a = c .before .before .before .args in
-    sym (simp (ne-eqb _ _ (c .before .before .if1 .left), ← quotient binary64 (a .hits) (a .reads) (pos-of-ne-zero (c .before .before .if1 .left)) (omega arith) (omega arith)))
+    sym (simp (ne-eqb _ _ (c .before .before .if1 .left), ← quotient binary64 (a .hits) (a .servable) (pos-of-ne-zero (c .before .before .if1 .left)) (omega arith) (omega arith)))
 
 pub share-of-spec : {M : Type 1} → statement M
 share-of-spec = tie.close (tie.spec returns int-to-float-part int-to-float-all returns-2)

@@ -1,0 +1,57 @@
+-- Hit shares of a log, and of any words, session or watch.
+use Prim.Native.Nat.{ℕ, _≤_}
+use mathlib.Core.Path.{_≡_, ap, _∙_}
+use native.Mathlib.Omega.{arith}
+use mathlib.Core.List.{List}
+use mathlib.Core.Bool.{true, false}
+use lib.ListN.{length}
+use Rattle.reuse.specs.Limits.{maxReads}
+use Rattle.reuse.specs.Lists.{mem, firsts}
+use Rattle.reuse.specs.Cache.{cacheAfter, hitCount, servable}
+use Rattle.reuse.specs.Traces.{Within}
+use Rattle.reuse.proofs.Lists.{by-test, clash}
+use Rattle.reuse.proofs.Servable.{served-known, known-served, cache-servable, cache-all, none-servable}
+use Rattle.summary_calls.specs.declared.HitShare.the-variants.{NoReads}
+use Rattle.summary_calls.specs.declared.ShareAnswer.the-variants.{Answered}
+use Rattle.summary_calls.specs.Calls.{shareOf}
+use Rattle.summary_calls.proofs.Shares.{share-between, share-full, share-one, no-reads, words-between, words-full}
+use Rattle.session_summary.proofs.Summaries.{session-between, session-full}
+use Rattle.watch.proofs.Watches.{watch-between}
+use Rattle.whole.specs.Counts.{cacheShare}
+use Rattle.whole.specs.Shares.{Serves, Shares, AnyShares}
+
+-- the cache of some size serves a read exactly if it is not cold
+pub serves : (earlier : List ℕ) (x : ℕ) → Serves earlier x
+serves earlier x = record {
+  of-cold = λ m c. by-test (mem x (cacheAfter c earlier)) (λ h. clash (served-known c earlier x h) m) (λ h. h);
+  of-known = λ m c l. known-served c earlier x l m;
+}
+
+-- the share of a log within the limits
+pub shares : (t : List ℕ) → Within t → (c : ℕ) → Shares c t
+unfolding servable
+shares t w c =
+    let h = hitCount c t in
+    let n = servable t in
+    let few : h ≤ n = cache-servable c t in
+    record {
+      few = few;
+      all = cache-all c t;
+      none = (
+        λ d. ap Answered (no-reads h n .0 (none-servable t .0 d)),
+        λ e. none-servable t .1 (no-reads h n .1 cc),
+      );
+      between = share-between h n few;
+      full = λ l. share-full h n (cache-all c t l);
+      full-only = share-one h n few (omega (arith, w .reads));
+    }
+
+-- the share of any words, session or watch
+pub any-shares : AnyShares
+any-shares = record {
+  words-between = words-between;
+  session-between = session-between;
+  watch-between = watch-between;
+  words-full = words-full;
+  session-full = session-full;
+}

@@ -1,0 +1,52 @@
+-- Hit shares: what the divisor counts, and what a share may be, of a log and of any words, session or watch handed in.
+use Prim.Native.Nat.{ℕ, _≤_}
+use mathlib.Core.Path.{_≡_}
+use mathlib.Core.List.{List}
+use mathlib.Core.Bool.{true, false}
+use lib.ListN.{length}
+use Rattle.reuse.specs.Lists.{mem, firsts, distinct}
+use Rattle.reuse.specs.Cache.{cacheAfter, hitCount, servable}
+use Rattle.reuse.specs.Summary.{extentsOf}
+use Rattle.summary_calls.specs.declared.HitShare.the-variants.{Share, NoReads}
+use Rattle.summary_calls.specs.declared.ShareAnswer.the-variants.{Answered}
+use Rattle.summary_calls.specs.Calls.{shareCall}
+use Rattle.summary_calls.specs.Shares.{one, Between, Full}
+use Rattle.session_soundness.specs.Soundness.{Wide}
+use Rattle.session.specs.declared.Session.{Session}
+use Rattle.session.specs.Sessions.{extents}
+use Rattle.session_summary.specs.Summaries.{shareCall as sessionShare}
+use Rattle.watch.specs.declared.Watch.{Watch}
+use Rattle.watch.specs.Watching.{shareCall as watchShare}
+use Rattle.whole.specs.Counts.{cacheShare}
+
+-- the caches that serve a read of x after the reads `earlier`
+pub record Serves (earlier : List ℕ) (x : ℕ) : Type 0 where
+  -- of a cold read none, of whatever size
+  pub of-cold : mem x earlier ≡ false → (c : ℕ) → mem x (cacheAfter c earlier) ≡ false
+  -- of any other each with room for the extents read
+  pub of-known : mem x earlier ≡ true → (c : ℕ) → length (firsts earlier) ≤ c → mem x (cacheAfter c earlier) ≡ true
+
+-- the share of the log t at size c
+pub record Shares (c : ℕ) (t : List ℕ) : Type 0 where
+  -- no cache has more hits than there are reads that some size could have served
+  pub few : hitCount c t ≤ servable t
+  -- one with room for all extents has as many
+  pub all : length (firsts t) ≤ c → hitCount c t ≡ servable t
+  -- 'no reads' exactly if the log reads no extent twice
+  pub none : (distinct t ≡ true → cacheShare c t ≡ Answered NoReads) × (cacheShare c t ≡ Answered NoReads → distinct t ≡ true)
+  -- else a number between 0 and 1
+  pub between : Between (cacheShare c t)
+  -- exactly 1 at a size of at least v
+  pub full : length (firsts t) ≤ c → Full (cacheShare c t)
+  -- and at no size where a read that is not cold is a miss
+  pub full-only : cacheShare c t ≡ Answered (Share one) → hitCount c t ≡ servable t
+
+-- the shares of any words, session and watch handed in, whether or not a log has them
+pub record AnyShares : Type 0 where
+  -- between 0 and 1
+  pub words-between : (w : List ℕ) (c : ℕ) → Between (shareCall w c)
+  pub session-between : (s : Session) → Wide (s .first) (s .hist) (s .slots) (s .sums) → (c : ℕ) → Between (sessionShare s c)
+  pub watch-between : (w : Watch) → Between (watchShare w)
+  -- exactly 1 at a size of at least v
+  pub words-full : (w : List ℕ) (c : ℕ) → extentsOf w ≤ c → Full (shareCall w c)
+  pub session-full : (s : Session) → Wide (s .first) (s .hist) (s .slots) (s .sums) → (c : ℕ) → extents s ≤ c → Full (sessionShare s c)
