@@ -95,7 +95,7 @@ static void read_one_by_one(const uint32_t *log, size_t count) {
     int64_t misses = jemqolu_session_misses(session, JEMQOLU_SESSION_WORDS, 2);
     printf("a cache of 2 misses %zu of the session's reads\n", accepted(misses, "misses"));
     if (accepted(jemqolu_watch_share(watch, JEMQOLU_WATCH_WORDS, &share), "share") == 1) {
-        printf("a cache of 2 serves %.3f of the reads\n", share);
+        printf("a cache of 2 serves %.3f of the reads that are not cold\n", share);
     }
 }
 

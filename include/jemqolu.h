@@ -86,8 +86,9 @@ int64_t jemqolu_distances(const uint32_t *prefix, size_t prefix_len, const uint3
 /* The misses of a cache of `size` extents that reads the summary's log. Lent: the summary. Refusal: -5. */
 int64_t jemqolu_misses(const uint32_t *words, size_t words_len, uint32_t size);
 
-/* The hits of such a cache divided by all reads, written to `*share`.
- * Lent: the summary; one double. Answer: 1, or 0 with `*share` unchanged where there are no reads. Refusal: -5. */
+/* The hits of such a cache divided by the reads that some size could have served, reads less cold reads, written to
+ * `*share`: between 0 and 1, and 1 where `size` is at least the number of extents.
+ * Lent: the summary; one double. Answer: 1, or 0 with `*share` unchanged where there are no such reads. Refusal: -5. */
 int64_t jemqolu_share(const uint32_t *words, size_t words_len, uint32_t size, double *share);
 
 /* The split of a store of `store` extents among customers: one share for each, none below the customer's least share, in
@@ -153,8 +154,8 @@ int64_t jemqolu_session_summary(const uint32_t *session, size_t session_len, uin
 /* The misses of a cache of `size` extents that reads the same log. Lent: the session. Refusal: -7. */
 int64_t jemqolu_session_misses(const uint32_t *session, size_t session_len, uint32_t size);
 
-/* The hits of such a cache divided by all reads, written to `*share`.
- * Lent: the session; one double. Answer: 1, or 0 with `*share` unchanged where there are no reads. Refusal: -7. */
+/* The hits of such a cache divided by the reads that some size could have served, as above, written to `*share`.
+ * Lent: the session; one double. Answer: 1, or 0 with `*share` unchanged where there are no such reads. Refusal: -7. */
 int64_t jemqolu_session_share(const uint32_t *session, size_t session_len, uint32_t size, double *share);
 
 /* A watch on one cache size is 4 words with the caller: the size, the reads, the cold reads, the hits.
@@ -171,8 +172,8 @@ int64_t jemqolu_watch_read(uint32_t *watch, size_t watch_len, uint32_t word);
 /* The misses so far, reads less hits. Lent: the watch. Refusal: -7. */
 int64_t jemqolu_watch_misses(const uint32_t *watch, size_t watch_len);
 
-/* The hits divided by all reads so far, written to `*share`.
- * Lent: the watch; one double. Answer: 1, or 0 with `*share` unchanged where there are no reads. Refusal: -7. */
+/* The hits so far divided by the reads that some size could have served, reads less cold reads, written to `*share`.
+ * Lent: the watch; one double. Answer: 1, or 0 with `*share` unchanged where there are no such reads. Refusal: -7. */
 int64_t jemqolu_watch_share(const uint32_t *watch, size_t watch_len, double *share);
 
 #ifdef __cplusplus

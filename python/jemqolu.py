@@ -246,7 +246,7 @@ def _written(name, out, *lent, work=()):
 
 
 def _share(name, *arguments):
-    """The share that the call writes, or None where there are no reads."""
+    """The share that the call writes, or None where there are no reads but cold ones."""
     share = ctypes.c_double(0.0)
     return share.value if _call(name, *arguments, ctypes.byref(share)) else None
 
@@ -290,7 +290,8 @@ def misses(words, size):
 
 
 def share(words, size):
-    """The hits of such a cache divided by all reads, or None where there are no reads. Refusal: 5."""
+    """The hits of such a cache divided by the reads that some size could have served, reads less cold reads, or None where
+    there are none: between 0 and 1, and 1 where `size` is at least the number of extents. Refusal: 5."""
     with _words(words) as summary:
         return _share("share", summary, _number(size))
 
@@ -366,7 +367,8 @@ class Session:
             return _call("session_misses", words, _number(size))
 
     def share(self, size):
-        """The hits of such a cache divided by all reads, or None where there are no reads. Refusal: 7."""
+        """The hits of such a cache divided by the reads that some size could have served, reads less cold reads, or None
+        where there are none. Refusal: 7."""
         with _state(self.words) as words:
             return _share("session_share", words, _number(size))
 
@@ -404,6 +406,7 @@ class Watch:
             return _call("watch_misses", words)
 
     def share(self):
-        """The hits divided by all reads so far, or None where there are no reads. Refusal: 7."""
+        """The hits so far divided by the reads that some size could have served, reads less cold reads, or None where there
+        are none. Refusal: 7."""
         with _state(self.words) as words:
             return _share("watch_share", words)

@@ -119,7 +119,7 @@ class Calls(Refusing):
         for summary in words_in_all_forms(SUMMARY):
             self.assertEqual(jemqolu.misses(summary, 2), 4)
         for summary in words_in_all_forms(SUMMARY):
-            self.assertEqual(jemqolu.share(summary, 2), 3 / 7)
+            self.assertEqual(jemqolu.share(summary, 2), 3 / 4)
         for summary in words_in_all_forms(SUMMARY):
             self.assertEqual(jemqolu.join(summary, [0, 0]).tolist(), SUMMARY)
 
@@ -169,6 +169,14 @@ class Calls(Refusing):
             self.refused(1, jemqolu.listing, none)
         self.assertEqual(jemqolu.plan("(seg 0)\n", []).tolist(), [0, 0])
         self.assertIsNone(jemqolu.share([0, 0], 1))
+
+    def test_shares(self):
+        for log in ([], [4, 0, 8, 1, 6], range(jemqolu.MAX_EXTENTS)):
+            summary = jemqolu.summarize(log)
+            for size in (0, 1, 5, 256, MOST):
+                self.assertIsNone(jemqolu.share(summary, size))
+                self.assertEqual(jemqolu.misses(summary, size), len(log))
+        self.assertEqual([jemqolu.share(SUMMARY, size) for size in (0, 1, 2, 3, 9)], [0, 1 / 4, 3 / 4, 1, 1])
 
     def test_sessions(self):
         session = jemqolu.Session()
@@ -362,7 +370,7 @@ class States(unittest.TestCase):
         kept = session.words.tobytes()
         session.words = memoryview(kept).cast("I")
         self.assertRaises(TypeError, session.read, 7)
-        self.assertEqual((session.misses(2), session.share(2), session.summary().tolist()), (4, 3 / 7, SUMMARY))
+        self.assertEqual((session.misses(2), session.share(2), session.summary().tolist()), (4, 3 / 4, SUMMARY))
         self.assertEqual(session.words.tobytes(), kept)
         watch.words = memoryview(watch.words).toreadonly()
         self.assertRaises(TypeError, watch.read, 1)

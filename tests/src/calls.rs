@@ -15,7 +15,7 @@ fn written<T: Cell>(answer: Answer<usize>, out: &Lent<T>) -> Answer<Vec<T>> {
     answer.map(|len| out.written(len).to_vec())
 }
 
-/// A hit share, or none where there are no reads; `lent` is the place for it.
+/// A hit share, or none where there are no reads but cold ones; `lent` is the place for it.
 #[track_caller]
 fn shared(answer: Answer<usize>, lent: &Lent<f64>) -> Answer<Option<f64>> {
     let count = answer.unwrap_or(0);

@@ -88,7 +88,7 @@ pub fn misses(words: &[u32], size: u32) -> Answer<usize> {
     answer(unsafe { raw::jemqolu_misses(words.as_ptr(), words.len(), size) })
 }
 
-/// The hit share of a cache of `size` extents; 1, or 0 where there are no reads.
+/// The hit share of a cache of `size` extents; 1, or 0 where there are no reads but cold ones.
 pub fn share(words: &[u32], size: u32, share: &mut f64) -> Answer<usize> {
     answer(unsafe { raw::jemqolu_share(words.as_ptr(), words.len(), size, share) })
 }
@@ -149,7 +149,7 @@ pub fn session_misses(session: &[u32], size: u32) -> Answer<usize> {
     answer(unsafe { raw::jemqolu_session_misses(session.as_ptr(), session.len(), size) })
 }
 
-/// The hit share of a cache of `size` extents that reads a session's log; 1, or 0 where there are no reads.
+/// The hit share of a cache of `size` extents that reads a session's log; 1, or 0 where there are no reads but cold ones.
 pub fn session_share(session: &[u32], size: u32, share: &mut f64) -> Answer<usize> {
     answer(unsafe { raw::jemqolu_session_share(session.as_ptr(), session.len(), size, share) })
 }
@@ -169,7 +169,7 @@ pub fn watch_misses(watch: &[u32]) -> Answer<usize> {
     answer(unsafe { raw::jemqolu_watch_misses(watch.as_ptr(), watch.len()) })
 }
 
-/// The hit share so far; 1, or 0 where there are no reads.
+/// The hit share so far; 1, or 0 where there are no reads but cold ones.
 pub fn watch_share(watch: &[u32], share: &mut f64) -> Answer<usize> {
     answer(unsafe { raw::jemqolu_watch_share(watch.as_ptr(), watch.len(), share) })
 }

@@ -54,6 +54,22 @@ fn a_distance_is_the_smallest_cache_that_hits() {
 }
 
 #[test]
+fn the_reads_that_some_size_serves_are_those_that_are_not_cold() {
+    let mut tally = Tally::new("reads that some size serves");
+    for trace in traces() {
+        let words = trace::distances(&trace);
+        let mut served = vec![false; trace.len()];
+        for size in 0..=trace::firsts(&trace).len() as u32 {
+            let hits = cache::hits(&trace, size);
+            served.iter_mut().zip(hits).for_each(|(served, hit)| *served |= hit);
+        }
+        tally.same(served.iter().filter(|served| **served).count() as u64, cache::servable(&trace), &trace);
+        tally.same(served, words.iter().map(|word| !trace::is_cold(*word)).collect(), &trace);
+    }
+    tally.at_least(2400);
+}
+
+#[test]
 fn the_join_of_two_parts_is_the_summary_of_the_whole() {
     let mut tally = Tally::new("joins by counting and summaries of the whole");
     for trace in traces() {

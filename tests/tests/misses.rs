@@ -36,7 +36,7 @@ fn the_caches_that_read_a_trace() {
         let words = summary::of(&trace);
         for size in sizes(&words) {
             let misses = cache::misses(&trace, size);
-            let share = hit_share(trace.len() as u64 - misses, trace.len() as u64);
+            let share = hit_share(trace.len() as u64 - misses, cache::servable(&trace));
             tally.same(calls::misses(&words, size), Ok(misses), &(&trace, size));
             tally.same(bits(calls::share(&words, size)), bits(Ok(share)), &(&trace, size));
         }
@@ -72,11 +72,35 @@ fn many_hits_by_many_reads() {
 }
 
 #[test]
-fn no_reads() {
-    let mut tally = Tally::new("misses and shares of no reads");
-    for size in sizes(&[0, 0]) {
-        tally.same(calls::misses(&[0, 0], size), Ok(0), &size);
-        tally.same(calls::share(&[0, 0], size), Ok(None), &size);
+fn shares_are_between_0_and_1_and_reach_1() {
+    let mut tally = Tally::new("shares of 1, and below");
+    let mut random = Random::new(54);
+    for round in 0..2000 {
+        let most = [3, 12, 256][round % 3];
+        let words = made::summary(&mut random, most);
+        let (v, counts) = (words[1], &words[2 + 2 * words[1] as usize..]);
+        for size in sizes(&words) {
+            let share = calls::share(&words, size).expect("well-formed words");
+            tally.same(share.is_some(), words[0] > v, &(&words, size));
+            let all = size >= v || counts[size as usize..].iter().all(|count| *count == 0);
+            let share = share.unwrap_or(if all { 1.0 } else { 0.0 });
+            tally.same((0.0..=1.0).contains(&share), true, &(&words, size));
+            tally.same(share == 1.0, all, &(&words, size));
+        }
     }
-    tally.at_least(20);
+    tally.at_least(100_000);
+}
+
+#[test]
+fn no_reads() {
+    let mut tally = Tally::new("misses and shares of no reads, and of cold reads alone");
+    let mut random = Random::new(55);
+    for count in [0, 1, 2, 5, 255, 256] {
+        let words = summary::of(&made::extents(&mut random, count));
+        for size in sizes(&words) {
+            tally.same(calls::misses(&words, size), Ok(count as u64), &(count, size));
+            tally.same(calls::share(&words, size), Ok(None), &(count, size));
+        }
+    }
+    tally.at_least(150);
 }

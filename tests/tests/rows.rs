@@ -1,5 +1,5 @@
-//! The requirements' own examples: every row of 'Sessions to try', the numbers of cold reads, the slots looked at, the
-//! sample texts, and the four quiet wrong joins.
+//! The requirements' own examples: every row of 'Sessions to try', the numbers of cold reads, the slots looked at, the hit
+//! shares, the sample texts, and the four quiet wrong joins.
 
 use jemqolu_tests::plain::session::{Reading, READS, WORDS};
 use jemqolu_tests::plain::COLD_BASE;
@@ -72,11 +72,30 @@ fn the_summaries_and_their_join() {
 #[test]
 fn the_misses_and_the_shares() {
     assert_eq!([0, 2, 9].map(|size| calls::misses(&SUMMARY, size)), [Ok(7), Ok(4), Ok(3)]);
-    assert_eq!(calls::share(&[0, 0], 3), Ok(None));
-    assert_eq!(calls::share(&SUMMARY, 2), Ok(Some(3.0 / 7.0)));
+    assert_eq!(calls::share(&SUMMARY, 2), Ok(Some(0.75)));
+    assert_eq!(calls::session_share(&read_all(&SEVEN).0, 2), Ok(Some(0.75)));
     let watch = [2, 7, 3, 3];
     assert_eq!(calls::watch_misses(&watch), Ok(4));
-    assert_eq!(calls::watch_share(&watch), Ok(Some(3.0 / 7.0)));
+    assert_eq!(calls::watch_share(&watch), Ok(Some(0.75)));
+}
+
+#[test]
+fn the_shares_of_cold_reads_alone() {
+    for log in [&[][..], &[4, 0, 8, 1, 6]] {
+        let summary = calls::summarize(log, 17).expect("a summary");
+        let (session, answers) = read_all(log);
+        for size in [0, 3, 5, 256] {
+            let mut watch = calls::watch_new(size, 4).expect("a new watch");
+            for answer in answers.iter().flatten() {
+                calls::watch_read(&mut watch, answer.word as u32).expect("a cold read");
+            }
+            assert_eq!(watch[1..], [log.len() as u32, log.len() as u32, 0]);
+            assert_eq!(calls::share(&summary, size), Ok(None));
+            assert_eq!(calls::session_share(&session, size), Ok(None));
+            assert_eq!(calls::watch_share(&watch), Ok(None));
+            assert_eq!(calls::misses(&summary, size), Ok(log.len() as u64));
+        }
+    }
 }
 
 #[test]

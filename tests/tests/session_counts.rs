@@ -45,7 +45,7 @@ fn the_caches_that_read_a_trace() {
         }
         for size in sizes(words[SUMS.end - 1]) {
             let misses = cache::misses(&trace, size);
-            let share = hit_share(trace.len() as u64 - misses, trace.len() as u64);
+            let share = hit_share(trace.len() as u64 - misses, cache::servable(&trace));
             tally.same(calls::session_misses(&words, size), Ok(misses), &(&trace, size));
             tally.same(bits(calls::session_share(&words, size)), bits(Ok(share)), &(&trace, size));
         }

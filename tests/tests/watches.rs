@@ -195,7 +195,7 @@ fn watches_of_traces() {
             tally.same(&words, &wanted, &given);
         }
         let misses = cache::misses(&reads, size);
-        let share = hit_share(reads.len() as u64 - misses, reads.len() as u64);
+        let share = hit_share(reads.len() as u64 - misses, cache::servable(&reads));
         let counts = [reads.len(), trace::different(&reads), reads.len() - misses as usize];
         tally.same(&words[1..], &counts.map(|count| count as u32), &(&reads, size));
         tally.same(calls::watch_misses(&words), Ok(misses), &(&reads, size));

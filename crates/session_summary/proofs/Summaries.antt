@@ -1,6 +1,6 @@
 -- The summary of a sound session, its misses and its share; and of one that has read a trace.
-use Prim.Native.Nat.{ℕ, _+_, _-_, _*_, _≤_, _<_}
-use mathlib.Core.Path.{_≡_, refl, sym, ap, _∙_}
+use Prim.Native.Nat.{ℕ, _+_, _-_, _≤_}
+use mathlib.Core.Path.{_≡_, sym, ap, _∙_}
 use mathlib.Core.List.{List, reverse}
 use mathlib.Core.Bool.{true, false}
 use native.Mathlib.Omega.{arith}
@@ -16,8 +16,8 @@ use Rattle.summary_calls.specs.declared.Written.{Written}
 use Rattle.summary_calls.specs.declared.MissCount.the-variants.{Misses}
 use Rattle.summary_calls.specs.declared.ShareAnswer.the-variants.{Answered}
 use Rattle.summary_calls.specs.Calls.{Wrote, wrote, refused, wordsCall, shareAt}
-use Rattle.summary_calls.specs.Shares.{Between, Full}
-use Rattle.summary_calls.proofs.Shares.{given-share, share-between, share-full}
+use Rattle.summary_calls.specs.Shares.{NoneOf, Between, Full}
+use Rattle.summary_calls.proofs.Shares.{share-none, share-between, share-full, given-share}
 use Rattle.session.specs.declared.Session.{Session}
 use Rattle.session_sums.specs.Sums.{filled}
 use Rattle.session_marks.specs.Marks.{marked, gatheredRow}
@@ -26,7 +26,7 @@ use Rattle.session.specs.Sessions.{marks, extents, stackOf, firstRow, sound}
 use Rattle.session_summary.specs.Summaries.{sessionWords, summaryCall, missesCall, shareCall}
 use Rattle.reuse.proofs.Stack.{stack-law}
 use Rattle.reuse.proofs.Counts.{sum-split}
-use Rattle.reuse.proofs.Words.{reads-words, extents-words, counts-words, length-words}
+use Rattle.reuse.proofs.Words.{reads-words, extents-words, counts-words}
 use Rattle.reuse.proofs.Misses.{summary-cache}
 use Rattle.reuse_copies.proofs.Padding.{padded-front}
 use Rattle.session_marks.proofs.Marks.{row-count}
@@ -117,6 +117,11 @@ misses-cache s t c g = misses-trace s t c g ∙ ap Misses (summary-cache c t)
 pub share-trace : (s : Session) (t : List ℕ) (c : ℕ) → Stands s t → shareCall s c ≡ Answered (shareAt (summaryOf t) c)
 unfolding shareCall
 share-trace s t c g = simp (g .is-sound, session-summary s t g)
+
+-- the share of a sound session is 'no reads' exactly where each of its reads is cold
+pub session-none : (s : Session) (c : ℕ) → sound s ≡ true → NoneOf (servableOf (sessionWords s)) (shareCall s c)
+unfolding shareCall
+session-none s c ok = simp ok (share-none (hitsOf (sessionWords s) c) (servableOf (sessionWords s)))
 
 -- the shares of a session, whether or not a log has it
 module _ (s : Session) (w : Wide (s .first) (s .hist) (s .slots) (s .sums)) (c : ℕ) where

@@ -59,7 +59,8 @@ pub fn share(s: Session, size: u32) -> ShareAnswer
     if !s.sound() {
         return ShareAnswer::Refused(7);
     }
-    let servable = s.reads - s.sums[ROOT];
+    let reads = s.reads;
+    let servable = reads - s.sums[ROOT];
     let hit = hits(s, size);
     ShareAnswer::Answered(summary_counts::share_of(hit, servable))
 }

@@ -1,5 +1,5 @@
 -- The fields of a summary's words, as parts of the slice that holds them.
-use mathlib.Core.Path.{_≡_, sym, ap, _∙_}
+use mathlib.Core.Path.{_≡_, sym, _∙_}
 use Prim.Native.Nat.{ℕ, _+_, _-_, _*_, _≤_}
 use native.Mathlib.Omega.{arith}
 use mathlib.Core.List.{List}
@@ -13,7 +13,7 @@ use Rattle.reuse.specs.Lists.{sum, distinct, allIn}
 use Rattle.reuse.specs.Summary.{wellFormed, readsOf, extentsOf, firstOf, recentOf, countsOf, hitsOf, missesOf}
 use Rattle.reuse.proofs.Lists.{by-test}
 use Rattle.reuse.proofs.Sizes.{in-all}
-use Rattle.reuse.proofs.Words.{counts-length, first-length, recent-length}
+use Rattle.reuse.proofs.Words.{counts-length, recent-length}
 use Rattle.reuse.proofs.Formed.{Formed, formed, well-formed}
 use Rattle.reuse.proofs.Misses.{hits-misses}
 use Rattle.reuse.proofs.Servable.{hits-whole}

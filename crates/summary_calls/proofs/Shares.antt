@@ -1,6 +1,6 @@
 -- Hit shares: of hits by reads, and of a summary's words.
-use mathlib.Core.Path.{_≡_, refl, sym, ap, _∙_}
-use Prim.Native.Nat.{ℕ, _-_, _*_, _≤_, _<_}
+use mathlib.Core.Path.{_≡_, refl, ap, _∙_}
+use Prim.Native.Nat.{ℕ, _-_, _≤_, _<_}
 use native.Mathlib.Omega.{arith}
 use native.Mathlib.Nat.{pos-of-ne-zero}
 use mathlib.Core.List.{List}
@@ -20,7 +20,7 @@ use Rattle.summary_calls.specs.declared.HitShare.{HitShare}
 use Rattle.summary_calls.specs.declared.HitShare.the-variants.{Share, NoReads}
 use Rattle.summary_calls.specs.declared.ShareAnswer.the-variants.{Answered, Refused as NoShare}
 use Rattle.summary_calls.specs.Calls.{shareOf, shareAt, shareCall}
-use Rattle.summary_calls.specs.Shares.{nought, one, Between, Full}
+use Rattle.summary_calls.specs.Shares.{nought, one, NoneOf, Between, Full}
 
 -- 0 by 1 and 1 by 1, rounded
 rounded-nought : round binary64 false 0 1 ≡ nought
@@ -42,11 +42,18 @@ module _ (h n : ℕ) where
   unfolding shareOf
   quotient-of x e =
       by-test (eqb n 0)
-      (λ z. let q : Answered NoReads ≡ Answered (Share x) = simp z at e in
-      let no : true ≡ false = cc in
-      clash refl no)
+      (λ z. let q : Answered NoReads ≡ Answered (Share x) = simp z at e in clash {b = true} refl cc)
       (λ z. let q : Answered (Share (round binary64 false h n)) ≡ Answered (Share x) = simp z at e in
       (pos-of-ne-zero (eqb-false n 0 z), cc))
+
+  -- 'no reads' exactly for no reads
+  pub share-none : NoneOf n (Answered (shareOf h n))
+  unfolding shareOf
+  share-none = (
+    λ z. simp (eq-eqb n 0 z),
+    λ e. by-test (eqb n 0) (λ z. eqb-true n 0 z)
+        (λ z. let q : Answered (Share (round binary64 false h n)) ≡ Answered NoReads = simp z at e in clash {b = true} refl cc),
+  )
 
   -- of no more hits than reads: between 0 and 1
   pub share-between : h ≤ n → Between (Answered (shareOf h n))
@@ -74,21 +81,15 @@ module _ (h n : ℕ) where
 -- a share is no refusal
 pub given-share : (b : Bool) (s : HitShare) (n : ℕ) (x : Float) → cond b (Answered s) (NoShare n) ≡ Answered (Share x) → (b ≡ true) × (Answered s ≡ Answered (Share x))
 given-share true s n x e = (refl, e)
-given-share false s n x e = let no : true ≡ false = cc in clash refl no
-
--- 'no reads' exactly where no size could have served a read
-pub no-reads : (h n : ℕ) → (n ≡ 0 → shareOf h n ≡ NoReads) × (shareOf h n ≡ NoReads → n ≡ 0)
-unfolding shareOf
-no-reads h n = (
-  λ z. simp (eq-eqb n 0 z),
-  λ e. by-test (eqb n 0) (λ z. eqb-true n 0 z)
-      (λ z. let q : Share (round binary64 false h n) ≡ NoReads = simp z at e in
-      let no : true ≡ false = cc in
-      clash refl no),
-)
+given-share false s n x e = clash {b = true} refl cc
 
 -- of a summary's words
 module _ (w : List ℕ) (c : ℕ) where
+  -- 'no reads' exactly where each read is cold
+  pub words-none : wellFormed w ≡ true → NoneOf (servableOf w) (shareCall w c)
+  unfolding shareCall
+  words-none ok = simp ok (share-none (hitsOf w c) (servableOf w))
+
   -- between 0 and 1
   pub words-between : Between (shareCall w c)
   unfolding shareCall

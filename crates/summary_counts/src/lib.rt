@@ -26,7 +26,8 @@ pub fn share(words: &[u32], size: u32) -> ShareAnswer
         return ShareAnswer::Refused(5);
     }
     let hits = hits(words, size);
-    let servable = words[0] - words[1];
+    let reads = words[0];
+    let servable = reads - words[1];
     ShareAnswer::Answered(share_of(hits, servable))
 }
 

@@ -15,22 +15,19 @@ use Rattle.reuse.specs.Summary.{summaryOf, missesOf, servableOf}
 use Rattle.reuse.proofs.Lists.{by-test}
 use Rattle.reuse.proofs.Stack.{length-reuses}
 use Rattle.reuse.proofs.Counts.{count-append}
-use Rattle.reuse.proofs.Words.{reads-summary}
 use Rattle.reuse.proofs.Formed.{summary-formed}
 use Rattle.reuse.proofs.Newcomers.{AllUpTo, cold-count, trace-up-to}
 use Rattle.reuse.proofs.Misses.{within-misses, summary-misses, summary-hits}
 use Rattle.reuse.proofs.Servable.{servable-summary}
 use Rattle.summary_calls.specs.declared.MissCount.the-variants.{Misses}
 use Rattle.summary_calls.specs.declared.ShareAnswer.the-variants.{Answered}
-use Rattle.summary_calls.specs.Calls.{shareOf, shareAt}
-use Rattle.summary_calls.specs.Shares.{Between}
-use Rattle.summary_calls.proofs.Shares.{given-share, share-between}
+use Rattle.summary_calls.specs.Calls.{shareAt}
 use Rattle.session.specs.declared.Session.{Session}
 use Rattle.session.specs.Reads.{stepAt}
 use Rattle.watch.specs.declared.Watch.{Watch}
 use Rattle.watch.specs.declared.Heard.the-variants.{Read}
-use Rattle.watch.specs.Watching.{newOf, soundOf, countedBy, notedOf, missesCall, servableOf as watchServable, shareCall, heardOf, readingOf, watchAfter}
-use Rattle.watch.proofs.Soundness.{Sound, sound-watch, watch-sound}
+use Rattle.watch.specs.Watching.{newOf, countedBy, notedOf, missesCall, shareCall, heardOf, readingOf, watchAfter}
+use Rattle.watch.proofs.Soundness.{Sound, watch-sound}
 
 -- an accepted read's answer is heard as its place in the stack
 pub heard-step : (s : Session) (x : ℕ) (r : Reuse) → heardOf (stepAt s x r .answer) ≡ Read (readingOf r)
@@ -109,10 +106,3 @@ module _ (c : ℕ) (t : List ℕ) (short : length t ≤ maxReads) (few : length 
   pub watch-share : shareCall (watchAfter (newOf c) (reuses [] t)) ≡ Answered (shareAt (summaryOf t) c)
   unfolding shareCall
   watch-share = rw (watch-trace, watch-sound _ watch-fits, summary-hits c t (summary-formed t short few), watch-servable)
-
--- the share of any watch is between 0 and 1
-pub watch-between : (w : Watch) → Between (shareCall w)
-unfolding shareCall
-watch-between w x e =
-    let q = given-share (soundOf w) (shareOf (w .hits) (watchServable w)) 7 x e in
-    share-between (w .hits) (watchServable w) (omega (arith, sound-watch w (q .0) .fits)) x (q .1)

@@ -160,7 +160,8 @@ pub fn share(w: Watch) -> ShareAnswer
     if !sound(w) {
         return ShareAnswer::Refused(7);
     }
-    let servable = w.reads - w.cold;
+    let reads = w.reads;
+    let servable = reads - w.cold;
     ShareAnswer::Answered(summary::share_of(w.hits, servable))
 }
 

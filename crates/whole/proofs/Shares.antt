@@ -1,23 +1,15 @@
 -- Hit shares of a log, and of any words, session or watch.
 use Prim.Native.Nat.{ℕ, _≤_}
-use mathlib.Core.Path.{_≡_, ap, _∙_}
 use native.Mathlib.Omega.{arith}
 use mathlib.Core.List.{List}
-use mathlib.Core.Bool.{true, false}
-use lib.ListN.{length}
-use Rattle.reuse.specs.Limits.{maxReads}
-use Rattle.reuse.specs.Lists.{mem, firsts}
+use Rattle.reuse.specs.Lists.{mem}
 use Rattle.reuse.specs.Cache.{cacheAfter, hitCount, servable}
 use Rattle.reuse.specs.Traces.{Within}
 use Rattle.reuse.proofs.Lists.{by-test, clash}
 use Rattle.reuse.proofs.Servable.{served-known, known-served, cache-servable, cache-all, none-servable}
-use Rattle.summary_calls.specs.declared.HitShare.the-variants.{NoReads}
-use Rattle.summary_calls.specs.declared.ShareAnswer.the-variants.{Answered}
-use Rattle.summary_calls.specs.Calls.{shareOf}
-use Rattle.summary_calls.proofs.Shares.{share-between, share-full, share-one, no-reads, words-between, words-full}
-use Rattle.session_summary.proofs.Summaries.{session-between, session-full}
-use Rattle.watch.proofs.Watches.{watch-between}
-use Rattle.whole.specs.Counts.{cacheShare}
+use Rattle.summary_calls.proofs.Shares.{share-none, share-between, share-full, share-one, words-none, words-between, words-full}
+use Rattle.session_summary.proofs.Summaries.{session-none, session-between, session-full}
+use Rattle.watch.proofs.Shares.{watch-none, watch-between}
 use Rattle.whole.specs.Shares.{Serves, Shares, AnyShares}
 
 -- the cache of some size serves a read exactly if it is not cold
@@ -38,8 +30,8 @@ shares t w c =
       few = few;
       all = cache-all c t;
       none = (
-        λ d. ap Answered (no-reads h n .0 (none-servable t .0 d)),
-        λ e. none-servable t .1 (no-reads h n .1 cc),
+        λ d. share-none h n .0 (none-servable t .0 d),
+        λ e. none-servable t .1 (share-none h n .1 e),
       );
       between = share-between h n few;
       full = λ l. share-full h n (cache-all c t l);
@@ -49,6 +41,9 @@ shares t w c =
 -- the share of any words, session or watch
 pub any-shares : AnyShares
 any-shares = record {
+  words-none = words-none;
+  session-none = session-none;
+  watch-none = watch-none;
   words-between = words-between;
   session-between = session-between;
   watch-between = watch-between;

@@ -26,7 +26,7 @@ use Rattle.after.specs.Calls.{afterCall}
 use Rattle.session_sums.specs.Sums.{pairs, sumsOf, zeros, same}
 use Rattle.session_marks.specs.Marks.{marked, tidy, slotFrom, lookedBelow}
 use Rattle.session_soundness.specs.Soundness.{soundRows}
-use Rattle.session.specs.Sessions.{fresh, marks, extents, stackOf, firstRow, sound}
+use Rattle.session.specs.Sessions.{marks, extents, stackOf, firstRow, sound}
 use Rattle.session.specs.Reads.{gathered, roomed, slotOf, lookedAt, moved, entered, taken, tooMany, readOf}
 use Rattle.session_summary.specs.Summaries.{sessionWords, summaryCall}
 use Rattle.whole.specs.Runs.{sessionAfter, answersOf, grouped}

@@ -6,17 +6,17 @@ use mathlib.Core.Bool.{true, false}
 use lib.ListN.{length}
 use Rattle.reuse.specs.Lists.{mem, firsts, distinct}
 use Rattle.reuse.specs.Cache.{cacheAfter, hitCount, servable}
-use Rattle.reuse.specs.Summary.{extentsOf}
+use Rattle.reuse.specs.Summary.{extentsOf, wellFormed, servableOf}
 use Rattle.summary_calls.specs.declared.HitShare.the-variants.{Share, NoReads}
 use Rattle.summary_calls.specs.declared.ShareAnswer.the-variants.{Answered}
 use Rattle.summary_calls.specs.Calls.{shareCall}
-use Rattle.summary_calls.specs.Shares.{one, Between, Full}
+use Rattle.summary_calls.specs.Shares.{one, NoneOf, Between, Full}
 use Rattle.session_soundness.specs.Soundness.{Wide}
 use Rattle.session.specs.declared.Session.{Session}
-use Rattle.session.specs.Sessions.{extents}
-use Rattle.session_summary.specs.Summaries.{shareCall as sessionShare}
+use Rattle.session.specs.Sessions.{extents, sound}
+use Rattle.session_summary.specs.Summaries.{sessionWords, shareCall as sessionShare}
 use Rattle.watch.specs.declared.Watch.{Watch}
-use Rattle.watch.specs.Watching.{shareCall as watchShare}
+use Rattle.watch.specs.Watching.{soundOf, servableOf as watchServable, shareCall as watchShare}
 use Rattle.whole.specs.Counts.{cacheShare}
 
 -- the caches that serve a read of x after the reads `earlier`
@@ -43,7 +43,11 @@ pub record Shares (c : ℕ) (t : List ℕ) : Type 0 where
 
 -- the shares of any words, session and watch handed in, whether or not a log has them
 pub record AnyShares : Type 0 where
-  -- between 0 and 1
+  -- 'no reads' exactly where each read is cold
+  pub words-none : (w : List ℕ) (c : ℕ) → wellFormed w ≡ true → NoneOf (servableOf w) (shareCall w c)
+  pub session-none : (s : Session) (c : ℕ) → sound s ≡ true → NoneOf (servableOf (sessionWords s)) (sessionShare s c)
+  pub watch-none : (w : Watch) → soundOf w ≡ true → NoneOf (watchServable w) (watchShare w)
+  -- else between 0 and 1
   pub words-between : (w : List ℕ) (c : ℕ) → Between (shareCall w c)
   pub session-between : (s : Session) → Wide (s .first) (s .hist) (s .slots) (s .sums) → (c : ℕ) → Between (sessionShare s c)
   pub watch-between : (w : Watch) → Between (watchShare w)

@@ -47,3 +47,8 @@ pub fn hits(trace: &[u32], size: u32) -> Vec<bool> {
 pub fn misses(trace: &[u32], size: u32) -> u64 {
     hits(trace, size).iter().filter(|hit| !**hit).count() as u64
 }
+
+/// The reads of a trace that a cache of some size serves: those that one that never evicts does.
+pub fn servable(trace: &[u32]) -> u64 {
+    trace.len() as u64 - misses(trace, u32::MAX)
+}

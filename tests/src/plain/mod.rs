@@ -20,7 +20,8 @@ pub const MAX_EXTENTS: usize = 256;
 /// A cold read is written as this plus its number: how many different extents the log has had, its own included.
 pub const COLD_BASE: u32 = 65_536;
 
-/// Hits divided by all reads, or none where there are no reads.
-pub fn hit_share(hits: u64, reads: u64) -> Option<f64> {
-    (reads > 0).then(|| hits as f64 / reads as f64)
+/// Hits divided by the reads that some size could have served, which are the reads that are not cold; none where there are
+/// no such reads.
+pub fn hit_share(hits: u64, servable: u64) -> Option<f64> {
+    (servable > 0).then(|| hits as f64 / servable as f64)
 }

@@ -232,8 +232,9 @@ pub fn misses(words: &[u32], size: u32) -> Answer<u64> {
     Ok(marks(words).len() as u64 + above(words, size))
 }
 
-/// The call for the hit share.
+/// The call for the hit share; each mark had a cold read.
 pub fn share(words: &[u32], size: u32) -> Answer<Option<f64>> {
-    let reads = words.first().map_or(0, |reads| u64::from(*reads));
-    misses(words, size).map(|misses| hit_share(reads - misses, reads))
+    let misses = misses(words, size)?;
+    let reads = u64::from(words[0]);
+    Ok(hit_share(reads - misses, reads - marks(words).len() as u64))
 }

@@ -130,9 +130,9 @@ pub fn misses(words: &[u32], size: u32) -> Answer<u64> {
     Ok(misses_at(&summary, size))
 }
 
-/// The call for the hit share.
+/// The call for the hit share; each extent had a cold read.
 pub fn share(words: &[u32], size: u32) -> Answer<Option<f64>> {
     let summary = well_formed(words).ok_or(refusal::SUMMARY)?;
     let hits = summary.counts.iter().take(size as usize).map(|count| u64::from(*count));
-    Ok(hit_share(hits.sum(), summary.reads))
+    Ok(hit_share(hits.sum(), summary.reads - summary.firsts.len() as u64))
 }

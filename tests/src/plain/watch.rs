@@ -53,6 +53,6 @@ pub fn misses(words: &[u32]) -> Answer<u64> {
 
 /// The call for the hit share.
 pub fn share(words: &[u32]) -> Answer<Option<f64>> {
-    let [reads, _, hits] = sound(words)?;
-    Ok(hit_share(hits, reads))
+    let [reads, cold, hits] = sound(words)?;
+    Ok(hit_share(hits, reads - cold))
 }

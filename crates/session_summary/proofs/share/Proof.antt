@@ -1,7 +1,8 @@
 -- `session_summary::share` meets its contract.
-use mathlib.Core.Path.{_≡_, sym, _∙_}
+use mathlib.Core.Path.{_≡_, sym, ap, _∙_}
 use mathlib.Core.Bool.{true}
 use borrow.Author.Tests.{not-true, not-false}
+use Rattle.summary_calls.specs.declared.ShareAnswer.the-variants.{Answered}
 use Rattle.session_soundness.specs.Soundness.{Wide}
 use Rattle.session.specs.Sessions.{sound}
 use Rattle.session_summary.specs.Summaries.{shareCall}
@@ -46,7 +47,7 @@ returns-2 c =
     let z = c .before .before .before .before .before in
     let o = ok (c .before .before .before) in
     let s = z .args .t1 in
-    sym (simp (o, servable-session s (rows-of s (wide z) o)) (cc (c .share-of .ensures, c .before .hits .ensures)))
+    sym (simp (o, servable-session s (rows-of s (wide z) o), ← c .before .hits .ensures) (ap Answered (sym (c .share-of .ensures))))
 
 pub share-spec : {M : Type 1} → statement M
 share-spec =

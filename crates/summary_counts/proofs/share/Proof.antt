@@ -1,10 +1,11 @@
 -- `summary_counts::share` meets its contract.
-use mathlib.Core.Path.{_≡_, sym, _∙_}
+use mathlib.Core.Path.{_≡_, sym, ap, _∙_}
 use native.Mathlib.Omega.{arith}
 use mathlib.Core.Bool.{true}
 use borrow.Author.Tests.{not-true, not-false}
 use Rattle.reuse.specs.Summary.{wellFormed, readsOf, extentsOf, servableOf}
 use Rattle.reuse.proofs.Formed.{formed}
+use Rattle.summary_calls.specs.declared.ShareAnswer.the-variants.{Answered}
 use Rattle.summary_calls.specs.Calls.{shareCall}
 use Rattle.summary_calls.proofs.Fields.{given, shaped}
 use borrow.Author.Needs.{needs}
@@ -25,11 +26,11 @@ returns c = sym (simp (sym (c .before .well-formed .ensures) ∙ not-true _ (c .
 hits-requires : tie.Need-hits-requires
 hits-requires c κs = given _ (pass c)
 
-shared-slice-read-servable : tie.Need-shared-slice-read-servable
-shared-slice-read-servable c = omega (arith, shaped _ (pass (c .before .before)) .long)
+shared-slice-read-reads : tie.Need-shared-slice-read-reads
+shared-slice-read-reads c = omega (arith, shaped _ (pass (c .before .before)) .long)
 
-shared-slice-read-servable-2 : tie.Need-shared-slice-read-servable-2
-shared-slice-read-servable-2 c = omega (arith, shaped _ (pass (c .before .before .before)) .long)
+shared-slice-read-servable : tie.Need-shared-slice-read-servable
+shared-slice-read-servable c = omega (arith, shaped _ (pass (c .before .before .before)) .long)
 
 -- each extent has a cold read, which is a read
 sub-servable : tie.Need-sub-servable
@@ -41,7 +42,7 @@ share-of-requires c κs = search needs
 
 returns-2 : tie.Need-returns-2
 unfolding shareCall servableOf readsOf extentsOf
-returns-2 c = sym (simp (pass (c .before .before .before .before)) (cc (c .share-of .ensures, c .before .before .before .hits .ensures)))
+returns-2 c = sym (simp (pass (c .before .before .before .before), ← c .before .before .before .hits .ensures) (ap Answered (sym (c .share-of .ensures))))
 
 pub share-spec : {M : Type 1} → statement M
 share-spec =
@@ -50,8 +51,8 @@ share-spec =
     well-formed-requires
     returns
     hits-requires
+    shared-slice-read-reads
     shared-slice-read-servable
-    shared-slice-read-servable-2
     sub-servable
     share-of-requires
     returns-2)

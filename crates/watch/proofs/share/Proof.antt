@@ -1,7 +1,8 @@
 -- `watch::share` meets its contract.
-use mathlib.Core.Path.{sym, _∙_}
+use mathlib.Core.Path.{sym, ap, _∙_}
 use native.Mathlib.Omega.{arith}
 use borrow.Author.Tests.{not-true, not-false}
+use Rattle.summary_calls.specs.declared.ShareAnswer.the-variants.{Answered}
 use Rattle.watch.specs.Watching.{shareCall}
 use Rattle.watch.proofs.Soundness.{sound-watch}
 use borrow.Author.Needs.{needs}
@@ -23,7 +24,7 @@ share-of-requires c κs = search needs
 
 returns-2 : tie.Need-returns-2
 unfolding shareCall
-returns-2 c = sym (simp (sym (c .before .before .before .sound .ensures) ∙ not-false _ (c .before .before .if1 .left)) (cc (c .share-of .ensures)))
+returns-2 c = sym (simp (sym (c .before .before .before .sound .ensures) ∙ not-false _ (c .before .before .if1 .left)) (ap Answered (sym (c .share-of .ensures))))
 
 pub share-spec : {M : Type 1} → statement M
 share-spec = tie.close (tie.spec sound-requires returns sub-servable share-of-requires returns-2)
