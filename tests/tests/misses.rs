@@ -88,7 +88,7 @@ fn shares_are_between_0_and_1_and_reach_1() {
             tally.same(share == 1.0, all, &(&words, size));
         }
     }
-    tally.at_least(100_000);
+    tally.at_least(88_000);
 }
 
 #[test]

@@ -16,8 +16,8 @@ use Rattle.summary_calls.specs.declared.Written.{Written}
 use Rattle.summary_calls.specs.declared.MissCount.the-variants.{Misses}
 use Rattle.summary_calls.specs.declared.ShareAnswer.the-variants.{Answered}
 use Rattle.summary_calls.specs.Calls.{Wrote, wrote, refused, wordsCall, shareAt}
-use Rattle.summary_calls.specs.Shares.{NoneOf, Between, Full}
-use Rattle.summary_calls.proofs.Shares.{share-none, share-between, share-full, given-share}
+use Rattle.summary_calls.specs.HitShares.{NoneOf, Between, Full}
+use Rattle.summary_calls.proofs.HitShares.{share-none, share-between, share-full, given-share}
 use Rattle.session.specs.declared.Session.{Session}
 use Rattle.session_sums.specs.Sums.{filled}
 use Rattle.session_marks.specs.Marks.{marked, gatheredRow}

@@ -1,5 +1,5 @@
 pub mod Calls
 pub mod Fields
 pub mod Traces
-pub mod Shares
+pub mod HitShares
 pub mod Examples

@@ -1,3 +1,3 @@
 pub mod Calls
 pub mod Shapes
-pub mod Shares
+pub mod HitShares

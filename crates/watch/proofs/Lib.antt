@@ -1,4 +1,4 @@
 pub mod Soundness
 pub mod Refusals
 pub mod Watches
-pub mod Shares
+pub mod HitShares

@@ -5,7 +5,7 @@ pub mod Plans
 pub mod Prefixes
 pub mod Looks
 pub mod Counts
-pub mod Shares
+pub mod HitShares
 pub mod Splits
 pub mod Whole
 pub mod Table

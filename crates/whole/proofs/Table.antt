@@ -32,7 +32,7 @@ use Rattle.session_summary.specs.Summaries.{sessionWords, summaryCall}
 use Rattle.whole.specs.Runs.{sessionAfter, answersOf, grouped}
 use Rattle.whole.specs.Looks.{lookedAlong}
 use Rattle.whole.specs.Counts.{cacheShare}
-use Rattle.whole.specs.Table.{SharesAre, five, seven, oddWords, Table}
+use Rattle.whole.specs.Table.{HitSharesAre, five, seven, oddWords, Table}
 use Rattle.whole.proofs.Counts.{counts}
 
 -- a log of two reads, the first of them of 4, and the last too, has one extent
@@ -59,7 +59,7 @@ within : (t : List ℕ) → leb (length t) maxReads ≡ true → leb (length (fi
 within t a b = record { reads = leb-true (length t) maxReads a; extents = leb-true (length (firsts t)) maxExtents b }
 
 -- the share of a log's words is the log's, and so are those of the session and the watch
-told : (c : ℕ) (t : List ℕ) (s : HitShare) → Within t → shareCall (summaryOf t) c ≡ Answered s → cacheShare c t ≡ Answered s → SharesAre c t s
+told : (c : ℕ) (t : List ℕ) (s : HitShare) → Within t → shareCall (summaryOf t) c ≡ Answered s → cacheShare c t ≡ Answered s → HitSharesAre c t s
 told c t s w e f =
     record { of-words = e; of-session = counts c t w .session-share ∙ f; of-watch = counts c t w .watch-share ∙ f }
 

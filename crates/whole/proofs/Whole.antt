@@ -29,7 +29,7 @@ use Rattle.watch_words.proofs.Fed.{taking}
 use Rattle.split_calls.proofs.Refusals.{refusals}
 use Rattle.whole.proofs.Looks.{looked-along, log-looks}
 use Rattle.whole.proofs.Counts.{counts}
-use Rattle.whole.proofs.Shares.{serves, shares, any-shares}
+use Rattle.whole.proofs.HitShares.{serves, hit-shares, any-hit-shares}
 use Rattle.whole.proofs.Splits.{splits}
 
 -- a cache of this size holds the extent, by what was seen
@@ -81,7 +81,7 @@ runs t w = record {
   distances = distances t w;
   caches = caches t w;
   counts = λ c. counts c t w;
-  shares = shares t w;
+  hit-shares = hit-shares t w;
 }
 
 -- demand 3, the numbers of newcomers after any words, what a watch in words takes, what a hit share may be, and the split of one store
@@ -95,7 +95,7 @@ claim = record {
   prefixes = λ w reads h. record { next = prefix-newcomer w (formed w h) reads; in-order = prefix-numbers w (formed w h) reads };
   watch-words = taking;
   serves = serves;
-  any-shares = any-shares;
+  any-hit-shares = any-hit-shares;
   split-refusals = refusals;
   splits = splits;
 }

@@ -30,7 +30,7 @@ use Rattle.split_calls.specs.Refusals.{Refusals}
 use Rattle.whole.specs.Newcomers.{Newcomers}
 use Rattle.whole.specs.Looks.{lookedAlong, Looked}
 use Rattle.whole.specs.Counts.{Counts}
-use Rattle.whole.specs.Shares.{Serves, Shares, AnyShares}
+use Rattle.whole.specs.HitShares.{Serves, HitShares, AnyHitShares}
 use Rattle.whole.specs.Splits.{Customers, Splits}
 use Rattle.whole.specs.Cuttings.{Cutting, cutParts, Follows, cutDistances, cutRoomy}
 
@@ -90,7 +90,7 @@ pub record Claims (t : List ℕ) : Type 0 where
   -- for every size the summary's words, the session and a watch fed with the answers tell that cache's misses and hit share
   pub counts : (c : ℕ) → Counts c t
   -- for every size the share is 'no reads' exactly if no extent is read twice, else between 0 and 1, and 1 at a size of at least v
-  pub shares : (c : ℕ) → Shares c t
+  pub hit-shares : (c : ℕ) → HitShares c t
 
 -- of every list of read calls and every log within the limits
 pub record Claim : Type 0 where
@@ -113,7 +113,7 @@ pub record Claim : Type 0 where
   -- the cache of some size serves a read exactly if it is not cold: of every list of reads
   pub serves : (earlier : List ℕ) (x : ℕ) → Serves earlier x
   -- a share is between 0 and 1, and exactly 1 at a size of at least v: of all words, sessions and watches
-  pub any-shares : AnyShares
+  pub any-hit-shares : AnyHitShares
   -- a split of one store is refused exactly under the conditions of 2, 5, 10 and 6, in this order, and a refusal leaves every word
   pub split-refusals : (store : ℕ) (leasts words shares : List ℕ) → Refusals store leasts words shares
   -- and of logs within the limits it gives each customer its share: fewest misses in the customers' own caches, then the smallest total, then the smallest shares

@@ -3,7 +3,7 @@ pub mod Cuttings
 pub mod Newcomers
 pub mod Looks
 pub mod Counts
-pub mod Shares
+pub mod HitShares
 pub mod Splits
 pub mod Claim
 pub mod Table

@@ -64,7 +64,7 @@ abbrev pub five : List ℕ
 five = 4 ∷ 0 ∷ 8 ∷ 1 ∷ 6 ∷ []
 
 -- this share at size c is what the log's summary, the session that read it and the watch fed with its answers tell
-pub record SharesAre (c : ℕ) (t : List ℕ) (s : HitShare) : Type 0 where
+pub record HitSharesAre (c : ℕ) (t : List ℕ) (s : HitShare) : Type 0 where
   pub of-words : shareCall (summaryOf t) c ≡ Answered s
   pub of-session : sessionShare (sessionAfter fresh t) c ≡ Answered s
   pub of-watch : watchShare (watching (newOf c) (answersOf fresh t)) ≡ Answered s
@@ -114,11 +114,11 @@ pub record Table : Type 0 where
   pub turned-called : grouped (bothOf (1 ∷ 2 ∷ []) (2 ∷ 1 ∷ [])) ≡ gives turnedWords
   pub turned-defined : (joinOf (summaryOf (1 ∷ 2 ∷ [])) (summaryOf (2 ∷ 1 ∷ [])) ≡ turnedWords) × (summaryOf (1 ∷ 2 ∷ 2 ∷ 1 ∷ []) ≡ turnedWords)
   -- the share of an empty log: 'no reads', at every size
-  pub share-called : (c : ℕ) → SharesAre c [] NoReads
+  pub share-called : (c : ℕ) → HitSharesAre c [] NoReads
   pub share-defined : (c : ℕ) → cacheShare c [] ≡ Answered NoReads
   -- the share of five different extents too
-  pub five-called : (c : ℕ) → SharesAre c five NoReads
+  pub five-called : (c : ℕ) → HitSharesAre c five NoReads
   pub five-defined : (c : ℕ) → cacheShare c five ≡ Answered NoReads
   -- the share of the seven reads at 2: 3 by 4, which is a float, 3 * 2 ^ -2
-  pub seven-share-called : SharesAre 2 seven (Share (round binary64 false 3 4))
+  pub seven-share-called : HitSharesAre 2 seven (Share (round binary64 false 3 4))
   pub seven-share-defined : (cacheShare 2 seven ≡ Answered (Share (round binary64 false 3 4))) × (round binary64 false 3 4 ≡ fin false 3 (negsuc 1))

@@ -20,7 +20,7 @@ use Rattle.summary_calls.specs.declared.HitShare.{HitShare}
 use Rattle.summary_calls.specs.declared.HitShare.the-variants.{Share, NoReads}
 use Rattle.summary_calls.specs.declared.ShareAnswer.the-variants.{Answered, Refused as NoShare}
 use Rattle.summary_calls.specs.Calls.{shareOf, shareAt, shareCall}
-use Rattle.summary_calls.specs.Shares.{nought, one, NoneOf, Between, Full}
+use Rattle.summary_calls.specs.HitShares.{nought, one, NoneOf, Between, Full}
 
 -- 0 by 1 and 1 by 1, rounded
 rounded-nought : round binary64 false 0 1 ≡ nought

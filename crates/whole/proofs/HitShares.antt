@@ -7,10 +7,10 @@ use Rattle.reuse.specs.Cache.{cacheAfter, hitCount, servable}
 use Rattle.reuse.specs.Traces.{Within}
 use Rattle.reuse.proofs.Lists.{by-test, clash}
 use Rattle.reuse.proofs.Servable.{served-known, known-served, cache-servable, cache-all, none-servable}
-use Rattle.summary_calls.proofs.Shares.{share-none, share-between, share-full, share-one, words-none, words-between, words-full}
+use Rattle.summary_calls.proofs.HitShares.{share-none, share-between, share-full, share-one, words-none, words-between, words-full}
 use Rattle.session_summary.proofs.Summaries.{session-none, session-between, session-full}
-use Rattle.watch.proofs.Shares.{watch-none, watch-between}
-use Rattle.whole.specs.Shares.{Serves, Shares, AnyShares}
+use Rattle.watch.proofs.HitShares.{watch-none, watch-between}
+use Rattle.whole.specs.HitShares.{Serves, HitShares, AnyHitShares}
 
 -- the cache of some size serves a read exactly if it is not cold
 pub serves : (earlier : List ℕ) (x : ℕ) → Serves earlier x
@@ -20,9 +20,9 @@ serves earlier x = record {
 }
 
 -- the share of a log within the limits
-pub shares : (t : List ℕ) → Within t → (c : ℕ) → Shares c t
+pub hit-shares : (t : List ℕ) → Within t → (c : ℕ) → HitShares c t
 unfolding servable
-shares t w c =
+hit-shares t w c =
     let h = hitCount c t in
     let n = servable t in
     let few : h ≤ n = cache-servable c t in
@@ -39,8 +39,8 @@ shares t w c =
     }
 
 -- the share of any words, session or watch
-pub any-shares : AnyShares
-any-shares = record {
+pub any-hit-shares : AnyHitShares
+any-hit-shares = record {
   words-none = words-none;
   session-none = session-none;
   watch-none = watch-none;

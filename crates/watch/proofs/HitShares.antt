@@ -3,8 +3,8 @@ use mathlib.Core.Path.{_≡_}
 use native.Mathlib.Omega.{arith}
 use mathlib.Core.Bool.{true}
 use Rattle.summary_calls.specs.Calls.{shareOf}
-use Rattle.summary_calls.specs.Shares.{NoneOf, Between}
-use Rattle.summary_calls.proofs.Shares.{share-none, share-between, given-share}
+use Rattle.summary_calls.specs.HitShares.{NoneOf, Between}
+use Rattle.summary_calls.proofs.HitShares.{share-none, share-between, given-share}
 use Rattle.watch.specs.declared.Watch.{Watch}
 use Rattle.watch.specs.Watching.{soundOf, servableOf, shareCall}
 use Rattle.watch.proofs.Soundness.{sound-watch}

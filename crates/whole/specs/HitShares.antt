@@ -10,7 +10,7 @@ use Rattle.reuse.specs.Summary.{extentsOf, wellFormed, servableOf}
 use Rattle.summary_calls.specs.declared.HitShare.the-variants.{Share, NoReads}
 use Rattle.summary_calls.specs.declared.ShareAnswer.the-variants.{Answered}
 use Rattle.summary_calls.specs.Calls.{shareCall}
-use Rattle.summary_calls.specs.Shares.{one, NoneOf, Between, Full}
+use Rattle.summary_calls.specs.HitShares.{one, NoneOf, Between, Full}
 use Rattle.session_soundness.specs.Soundness.{Wide}
 use Rattle.session.specs.declared.Session.{Session}
 use Rattle.session.specs.Sessions.{extents, sound}
@@ -27,7 +27,7 @@ pub record Serves (earlier : List ℕ) (x : ℕ) : Type 0 where
   pub of-known : mem x earlier ≡ true → (c : ℕ) → length (firsts earlier) ≤ c → mem x (cacheAfter c earlier) ≡ true
 
 -- the share of the log t at size c
-pub record Shares (c : ℕ) (t : List ℕ) : Type 0 where
+pub record HitShares (c : ℕ) (t : List ℕ) : Type 0 where
   -- no cache has more hits than there are reads that some size could have served
   pub few : hitCount c t ≤ servable t
   -- one with room for all extents has as many
@@ -42,7 +42,7 @@ pub record Shares (c : ℕ) (t : List ℕ) : Type 0 where
   pub full-only : cacheShare c t ≡ Answered (Share one) → hitCount c t ≡ servable t
 
 -- the shares of any words, session and watch handed in, whether or not a log has them
-pub record AnyShares : Type 0 where
+pub record AnyHitShares : Type 0 where
   -- 'no reads' exactly where each read is cold
   pub words-none : (w : List ℕ) (c : ℕ) → wellFormed w ≡ true → NoneOf (servableOf w) (shareCall w c)
   pub session-none : (s : Session) (c : ℕ) → sound s ≡ true → NoneOf (servableOf (sessionWords s)) (sessionShare s c)
