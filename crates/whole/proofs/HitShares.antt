@@ -35,7 +35,7 @@ hit-shares t w c =
       );
       between = share-between h n few;
       full = λ l. share-full h n (cache-all c t l);
-      full-only = share-one h n few (omega (arith, w .reads));
+      full-exactly = (share-full h n, share-one h n few (omega (arith, w .reads)));
     }
 
 -- the share of any words, session or watch

@@ -38,8 +38,8 @@ pub record HitShares (c : ℕ) (t : List ℕ) : Type 0 where
   pub between : Between (cacheShare c t)
   -- exactly 1 at a size of at least v
   pub full : length (firsts t) ≤ c → Full (cacheShare c t)
-  -- and 1 at no size where a read that is not cold is a miss
-  pub full-only : cacheShare c t ≡ Answered (Share one) → hitCount c t ≡ servable t
+  -- and at any size exactly if each read that is not cold is a hit
+  pub full-exactly : (hitCount c t ≡ servable t → Full (cacheShare c t)) × (cacheShare c t ≡ Answered (Share one) → hitCount c t ≡ servable t)
 
 -- the shares of any words, session and watch handed in, whether or not a log has them; a session's rows have the lengths of
 -- its arrays (`Wide`)
