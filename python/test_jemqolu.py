@@ -170,7 +170,7 @@ class Calls(Refusing):
         self.assertEqual(jemqolu.plan("(seg 0)\n", []).tolist(), [0, 0])
         self.assertIsNone(jemqolu.share([0, 0], 1))
 
-    def test_shares(self):
+    def test_hit_shares(self):
         for log in ([], [4, 0, 8, 1, 6], range(jemqolu.MAX_EXTENTS)):
             summary = jemqolu.summarize(log)
             for size in (0, 1, 5, 256, MOST):

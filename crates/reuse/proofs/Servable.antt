@@ -84,6 +84,6 @@ module _ (w : List ℕ) (f : Formed w) (c : ℕ) where
   hits-whole l = ap sum (take-all c (countsOf w) (omega (arith, counts-length w (f .long))))
 
   -- so all of those reads are
-  pub hits-all : extentsOf w ≤ c → hitsOf w c ≡ servableOf w
+  pub all-servable : extentsOf w ≤ c → hitsOf w c ≡ servableOf w
   unfolding servableOf
-  hits-all l = omega (arith, hits-whole l, f .total)
+  all-servable l = omega (arith, hits-whole l, f .total)

@@ -50,19 +50,28 @@ module _ (s : Session) (k : Kept s) where
   hist-long = length-hist ∙ sym (length-first s k)
 
   -- L of them
-  pub reads-session : readsOf (sessionWords s) ≡ s .reads
+  reads-session : readsOf (sessionWords s) ≡ s .reads
   unfolding sessionWords
   reads-session = reads-words (s .reads) (firstRow s) (stackOf s) (take (extents s) (s .hist))
 
   -- v of them
-  pub extents-session : extentsOf (sessionWords s) ≡ extents s
+  extents-session : extentsOf (sessionWords s) ≡ extents s
   unfolding sessionWords
   extents-session = extents-words (s .reads) (firstRow s) (stackOf s) (take (extents s) (s .hist)) ∙ length-first s k
 
   -- H of them
-  pub counts-session : countsOf (sessionWords s) ≡ take (extents s) (s .hist)
+  counts-session : countsOf (sessionWords s) ≡ take (extents s) (s .hist)
   unfolding sessionWords
   counts-session = counts-words (s .reads) (firstRow s) (stackOf s) (take (extents s) (s .hist)) recent-long hist-long
+
+  -- the reads that some size could have served are all but one for each mark
+  pub servable-session : servableOf (sessionWords s) ≡ s .reads - root s
+  unfolding servableOf
+  servable-session = rw (reads-session, extents-session, kept-root s k)
+
+  -- there are no more marks than reads
+  pub root-reads : root s ≤ s .reads
+  root-reads = omega (arith, kept-root s k, hist-total s k)
 
   -- the hits at a size of at most v
   pub hits-small : (c : ℕ) → c ≤ extents s → sum (take c (s .hist)) ≡ hitsOf (sessionWords s) c
@@ -78,15 +87,6 @@ module _ (s : Session) (k : Kept s) where
   pub hits-reads : (c : ℕ) → hitsOf (sessionWords s) c + missesOf (sessionWords s) c ≡ s .reads
   unfolding hitsOf missesOf
   hits-reads c = rw (extents-session, counts-session) (omega (arith, sum-split c (take (extents s) (s .hist)), hist-total s k))
-
-  -- the reads that some size could have served are all but one for each mark
-  pub servable-session : servableOf (sessionWords s) ≡ s .reads - root s
-  unfolding servableOf
-  servable-session = rw (reads-session, extents-session, kept-root s k)
-
-  -- there are no more marks than reads
-  pub root-reads : root s ≤ s .reads
-  root-reads = omega (arith, kept-root s k, hist-total s k)
 
 -- so no more hits than reads
 pub hits-few : (s : Session) (k : Kept s) (c n : ℕ) → n ≡ hitsOf (sessionWords s) c → n ≤ s .reads

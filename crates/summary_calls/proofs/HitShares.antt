@@ -15,7 +15,7 @@ use Rattle.reuse.specs.Limits.{maxReads}
 use Rattle.reuse.specs.Summary.{extentsOf, wellFormed, hitsOf, servableOf}
 use Rattle.reuse.proofs.Lists.{by-test, clash}
 use Rattle.reuse.proofs.Formed.{formed}
-use Rattle.reuse.proofs.Servable.{hits-servable, hits-all}
+use Rattle.reuse.proofs.Servable.{hits-servable, all-servable}
 use Rattle.summary_calls.specs.declared.HitShare.{HitShare}
 use Rattle.summary_calls.specs.declared.HitShare.the-variants.{Share, NoReads}
 use Rattle.summary_calls.specs.declared.ShareAnswer.the-variants.{Answered, Refused as NoShare}
@@ -102,4 +102,4 @@ module _ (w : List ℕ) (c : ℕ) where
   unfolding shareCall
   words-full l x e =
       let q = given-share (wellFormed w) (shareAt w c) 5 x e in
-      share-full (hitsOf w c) (servableOf w) (hits-all w (formed w (q .0)) c l) x (q .1)
+      share-full (hitsOf w c) (servableOf w) (all-servable w (formed w (q .0)) c l) x (q .1)

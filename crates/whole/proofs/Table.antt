@@ -55,12 +55,12 @@ no-log t h =
     one-extent t (sym (reads-summary t) ∙ ap readsOf h) (sym (first-summary t) ∙ ap firstOf h) (stack-law t ∙ sym (recent-summary t) ∙ ap recentOf h)
 
 -- a short log is within the limits
-within : (t : List ℕ) → leb (length t) maxReads ≡ true → leb (length (firsts t)) maxExtents ≡ true → Within t
-within t a b = record { reads = leb-true (length t) maxReads a; extents = leb-true (length (firsts t)) maxExtents b }
+short-log : (t : List ℕ) → leb (length t) maxReads ≡ true → leb (length (firsts t)) maxExtents ≡ true → Within t
+short-log t a b = record { reads = leb-true (length t) maxReads a; extents = leb-true (length (firsts t)) maxExtents b }
 
 -- the share of a log's words is the log's, and so are those of the session and the watch
-told : (c : ℕ) (t : List ℕ) (s : HitShare) → Within t → shareCall (summaryOf t) c ≡ Answered s → cacheShare c t ≡ Answered s → HitSharesAre c t s
-told c t s w e f =
+same-shares : (c : ℕ) (t : List ℕ) (s : HitShare) → Within t → shareCall (summaryOf t) c ≡ Answered s → cacheShare c t ≡ Answered s → HitSharesAre c t s
+same-shares c t s w e f =
     record { of-words = e; of-session = counts c t w .session-share ∙ f; of-watch = counts c t w .watch-share ∙ f }
 
 -- 3 by 4 is a float
@@ -95,10 +95,10 @@ table = record {
   misses-defined = (refl, refl, refl);
   turned-called = refl;
   turned-defined = (refl, refl);
-  share-called = λ c. told c [] NoReads (within [] refl refl) refl refl;
+  share-called = λ c. same-shares c [] NoReads (short-log [] refl refl) refl refl;
   share-defined = λ c. refl;
-  five-called = λ c. told c five NoReads (within five refl refl) refl refl;
+  five-called = λ c. same-shares c five NoReads (short-log five refl refl) refl refl;
   five-defined = λ c. refl;
-  seven-share-called = told 2 seven (Share (round binary64 false 3 4)) (within seven refl refl) refl refl;
+  seven-share-called = same-shares 2 seven (Share (round binary64 false 3 4)) (short-log seven refl refl) refl refl;
   seven-share-defined = (refl, three-quarters);
 }
