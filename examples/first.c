@@ -1,6 +1,7 @@
 /* A first program: two parts of a log summarized and joined, the distances of each part after what was read before it,
- * the misses of every cache size, the same by a joining plan, the listing of a log text, a session read by read, and
- * refusals. Built and run from the root of the repository, once `rt staticlib capi` has built the library:
+ * the misses of every cache size, the same by a joining plan, the listing of a log text, a session read by read, returns
+ * to a named moment, and refusals. Built and run from the root of the repository, once `rt staticlib capi` has built the
+ * library:
  *   gcc -Wall -Wextra -Iinclude -o target/first examples/first.c target/staticlib/libcapi.a && target/first
  * It prints what examples/first.txt has. */
 #include <inttypes.h>
@@ -71,23 +72,30 @@ static void print_listing(void) {
     printf("%.*s", (int)accepted(bytes, "listing"), (const char *)out);
 }
 
+/* One more read of a session, printed as cold and its number or as its distance; its word. */
+static uint32_t read_one(uint32_t *session, uint32_t extent, uint32_t *slots_looked) {
+    uint32_t sums_read = 0;
+    int64_t answer = jemqolu_session_read(session, JEMQOLU_SESSION_WORDS, extent, &sums_read, slots_looked);
+    uint32_t word = (uint32_t)accepted(answer, "read");
+    printf("read %" PRIu32 ": ", extent);
+    if (word > JEMQOLU_COLD_BASE) {
+        printf("cold, extent number %" PRIu32, word - JEMQOLU_COLD_BASE);
+    } else {
+        printf("distance %" PRIu32, word);
+    }
+    return word;
+}
+
 /* The same log taken read by read, with a watch on a cache of two extents. */
 static void read_one_by_one(const uint32_t *log, size_t count) {
     static uint32_t session[JEMQOLU_SESSION_WORDS];
-    uint32_t watch[JEMQOLU_WATCH_WORDS], summary[JEMQOLU_SUMMARY_WORDS], sums_read = 0, slots_looked = 0;
+    uint32_t watch[JEMQOLU_WATCH_WORDS], summary[JEMQOLU_SUMMARY_WORDS], slots_looked = 0;
     double share = 0;
     accepted(jemqolu_session_new(session, JEMQOLU_SESSION_WORDS), "session");
     accepted(jemqolu_watch_new(2, watch, JEMQOLU_WATCH_WORDS), "watch");
     for (size_t i = 0; i < count; i++) {
-        int64_t answer = jemqolu_session_read(session, JEMQOLU_SESSION_WORDS, log[i], &sums_read, &slots_looked);
-        uint32_t word = (uint32_t)accepted(answer, "read");
+        uint32_t word = read_one(session, log[i], &slots_looked);
         accepted(jemqolu_watch_read(watch, JEMQOLU_WATCH_WORDS, word), "watch");
-        printf("read %" PRIu32 ": ", log[i]);
-        if (word > JEMQOLU_COLD_BASE) {
-            printf("cold, extent number %" PRIu32, word - JEMQOLU_COLD_BASE);
-        } else {
-            printf("distance %" PRIu32, word);
-        }
         printf("; slots looked at: %" PRIu32 "\n", slots_looked);
     }
     int64_t words = jemqolu_session_summary(session, JEMQOLU_SESSION_WORDS, summary, JEMQOLU_SUMMARY_WORDS);
@@ -97,6 +105,30 @@ static void read_one_by_one(const uint32_t *log, size_t count) {
     if (accepted(jemqolu_watch_share(watch, JEMQOLU_WATCH_WORDS, &share), "share") == 1) {
         printf("a cache of 2 serves %.3f of the reads that are not cold\n", share);
     }
+}
+
+/* The moment after the first two reads of the log, and three ways to go on from it. */
+static void come_back(const uint32_t *log) {
+    static uint32_t session[JEMQOLU_SESSION_WORDS], names[JEMQOLU_NAMES_WORDS];
+    const uint32_t next[] = {9, 7, 3};
+    uint32_t slots_looked = 0;
+    accepted(jemqolu_session_new(session, JEMQOLU_SESSION_WORDS), "session");
+    accepted(jemqolu_names_new(names, JEMQOLU_NAMES_WORDS), "names");
+    for (size_t i = 0; i < 2; i++) {
+        read_one(session, log[i], &slots_looked);
+        printf("\n");
+    }
+    accepted(jemqolu_session_name(session, JEMQOLU_SESSION_WORDS, names, JEMQOLU_NAMES_WORDS, 1), "name");
+    for (size_t i = 0; i < 3; i++) {
+        accepted(jemqolu_session_return(session, JEMQOLU_SESSION_WORDS, names, JEMQOLU_NAMES_WORDS, 1), "return");
+        printf("from name 1, ");
+        read_one(session, next[i], &slots_looked);
+        printf("\n");
+    }
+    printf("a return to name 2, which is not set: %" PRId64 "\n",
+           jemqolu_session_return(session, JEMQOLU_SESSION_WORDS, names, JEMQOLU_NAMES_WORDS, 2));
+    printf("9 as a name: %" PRId64 "\n",
+           jemqolu_session_name(session, JEMQOLU_SESSION_WORDS, names, JEMQOLU_NAMES_WORDS, 9));
 }
 
 /* Calls that are refused: each says why, and changes nothing. */
@@ -129,6 +161,7 @@ int main(void) {
     print_plan(log, 7);
     print_listing();
     read_one_by_one(log, 7);
+    come_back(log);
     print_refusals(whole, len);
     return 0;
 }

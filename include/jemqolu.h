@@ -12,8 +12,8 @@
  * overlap nothing else that it is lent.
  *
  * An answer of 0 or more is what was asked for. A negative answer is a refusal, the negative of its number (`enum
- * jemqolu_refusal`), and leaves everything lent as it was. What a call writes stands at the front of the buffer lent; what
- * lies past it keeps its contents.
+ * jemqolu_refusal`), and leaves everything lent as it was. What a call writes stands at the front of the buffer lent, but
+ * what a naming writes at the name's place; everything else there keeps its contents.
  *
  * Every call is reentrant: it works on what it is lent and on its stack, has no state of its own, allocates nothing and
  * makes no system call. Any number of threads may call at once, as long as none of them writes to what another is lent.
@@ -33,7 +33,8 @@ enum jemqolu_refusal {
     JEMQOLU_REFUSED_LINE = 1,    /* a text line with which no text of the rule can go on, or an end too early */
     JEMQOLU_REFUSED_NUMBER = 2,  /* in a text an extent above 4,294,967,295 or a seg above 1,048,576; a word given to a
                                     watch that is neither a distance from 1 to 256 nor a cold read of a number from 1 to
-                                    256; a store above 1,024; a number of customers that is not 1 to 8 */
+                                    256; a store above 1,024; a number of customers that is not 1 to 8; a name that is
+                                    not 1 to 8 */
     JEMQOLU_REFUSED_SEGS = 3,    /* the segs of a plan do not add up to the log */
     JEMQOLU_REFUSED_PLAN = 4,    /* a plan text over 65,536 bytes, a ninth join open, a seventeenth part of one join */
     JEMQOLU_REFUSED_SUMMARY = 5, /* words that are not a well-formed summary */
@@ -42,7 +43,8 @@ enum jemqolu_refusal {
     JEMQOLU_REFUSED_READS = 8,   /* more than 1,048,576 reads would result, those of a prefix or of both sides of a join
                                     counted */
     JEMQOLU_REFUSED_EXTENTS = 9, /* more than 256 different extents would result, counted so too */
-    JEMQOLU_REFUSED_SHARES = 10  /* the least shares add up to more than the store */
+    JEMQOLU_REFUSED_SHARES = 10, /* the least shares add up to more than the store */
+    JEMQOLU_REFUSED_NAME = 11    /* a return to a name that is not set */
 };
 
 /* The limits. */
@@ -54,17 +56,20 @@ enum jemqolu_refusal {
 #define JEMQOLU_MAX_SEG 1048576      /* the reads of one seg of a plan */
 #define JEMQOLU_MAX_STORE 1024       /* the extents of a store that is split */
 #define JEMQOLU_MAX_CUSTOMERS 8      /* of one store */
+#define JEMQOLU_MAX_NAMES 8          /* the names are 1 to this */
 
 /* The words of reads: a distance and a cold read's number are 1 to JEMQOLU_MAX_EXTENTS. */
 #define JEMQOLU_COLD_BASE 65536 /* a cold read is written as this plus its number */
 
-/* Lengths that always suffice, and the exact ones of a session and a watch. */
+/* Lengths that always suffice, and the exact ones of a session, a watch and the names. */
 #define JEMQOLU_SUMMARY_WORDS 770  /* 2 + 3 * 256: any summary */
 #define JEMQOLU_LEVEL_WORDS 1540   /* the work words for each join open at once where a plan is deepest */
 #define JEMQOLU_WORK_WORDS 12320   /* 1,540 * 8: any plan */
 #define JEMQOLU_LISTING_BYTES 8192 /* any listing */
 #define JEMQOLU_SESSION_WORDS 2049 /* a session */
 #define JEMQOLU_WATCH_WORDS 4      /* a watch */
+#define JEMQOLU_NAME_WORDS 2050    /* 1 + 2,049: the place of a name; the names 1 to k need k times as many */
+#define JEMQOLU_NAMES_WORDS 16400  /* 2,050 * 8: all names */
 #define JEMQOLU_STACK_BYTES 73728  /* the stack of any call, beside what the thread and the caller use of it */
 
 /* The summary of a list of reads, a whole part in one call.
@@ -157,6 +162,31 @@ int64_t jemqolu_session_misses(const uint32_t *session, size_t session_len, uint
 /* The hits of such a cache divided by the reads that some size could have served, as above, written to `*share`.
  * Lent: the session; one double. Answer: 1, or 0 with `*share` unchanged where there are no such reads. Refusal: -7. */
 int64_t jemqolu_session_share(const uint32_t *session, size_t session_len, uint32_t size, double *share);
+
+/* Names for moments: a name, 1 to 8, stands for the session as it was when it was named. After a return to it the session's
+ * log is the one of that moment, followed by what is read after the return, as often as one returns. All answers and the
+ * summary are those of this log, whatever else was called. Names are 8 places of 2,050 words each with the caller, who may
+ * keep and copy them; the place of name k starts at word (k - 1) * 2,050:
+ *   its word 0         whether the name is set: 0 where it is not, any other number where it is
+ *   its words 1..2049  the session under the name
+ * Of fewer words than all 16,400, the names whose places lie within them can be used. Words past these are neither read nor
+ * written. */
+
+/* Names of which none is set. Lent: 16,400 words, which become 0. Answer: 16,400. Refusal: -6. */
+int64_t jemqolu_names_new(uint32_t *names, size_t names_len);
+
+/* The present session put under a name, in place of what was there; the name's word 0 becomes 1.
+ * Lent: the session; the names, which are changed at this name's place. Answer: 0.
+ * Refusals, in order: -2, -7 for the present session, -6 where the place does not lie within the names' words. */
+int64_t jemqolu_session_name(const uint32_t *session, size_t session_len,
+                             uint32_t *names, size_t names_len, uint32_t name);
+
+/* A return to the session under a name. No name is forgotten.
+ * Lent: the session, 2,049 words, whose contents make no difference; the names. Answer: 0.
+ * Refusals, in order: -2, -11 where the name is not set in these words (a place that does not lie within them is
+ * not), -7 for the session under the name, -6. */
+int64_t jemqolu_session_return(uint32_t *session, size_t session_len,
+                               const uint32_t *names, size_t names_len, uint32_t name);
 
 /* A watch on one cache size is 4 words with the caller: the size, the reads, the cold reads, the hits.
  * Words lent past these are neither read nor written. */

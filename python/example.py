@@ -1,6 +1,6 @@
 #!/usr/bin/env python3
 """Cuts a log into parts, summarizes them in several processes, and joins them in two groupings; answers the reads of
-each part after those before it, and says how the set of extents grows.
+each part after those before it, says how the set of extents grows, and goes on from a named moment in two ways.
 
 Prints what comes out, which python/example.txt has as well. Exit status 1 where something differs from the uncut log.
 Run python/build first.
@@ -87,6 +87,23 @@ def compare_misses(joined, uncut, text):
     return same
 
 
+def compare_ways_on(log):
+    """Says the misses of two ways to go on from the log's first 1,000 reads: with the next 1,000, and with the last."""
+    session, front, same = jemqolu.Session(), log[:1000], True
+    for extent in front:
+        session.read(extent)
+    session.name(1)
+    for way, reads in (("next", log[1000:2000]), ("last", log[-1000:])):
+        session.return_to(1)
+        for extent in reads:
+            session.read(extent)
+        counts = [session.misses(64), jemqolu.misses(jemqolu.summarize(front + reads), 64)]
+        agree = counts[0] == counts[1]
+        print("misses with the %s 1000 reads: %d%s" % (way, counts[0], "" if agree else ", OTHERWISE %r" % counts))
+        same = same and agree
+    return same
+
+
 def main():
     with open(LOG, encoding="ascii") as file:
         text = file.read()
@@ -102,6 +119,7 @@ def main():
     same = compare("answers in parts", answers_in_parts(parts, summaries), answers.words) and same
     say_growth(answers)
     same = compare_misses(joined, uncut, text) and same
+    same = compare_ways_on(log) and same
     return 0 if same else 1
 
 

@@ -39,18 +39,21 @@ MAX_PARTS = 16
 MAX_SEG = 1_048_576
 MAX_STORE = 1024
 MAX_CUSTOMERS = 8
+MAX_NAMES = 8
 SUMMARY_WORDS = 2 + 3 * MAX_EXTENTS
 LEVEL_WORDS = 1540
 WORK_WORDS = LEVEL_WORDS * MAX_JOINS
 LISTING_BYTES = 8192
 SESSION_WORDS = 2049
 WATCH_WORDS = 4
+NAME_WORDS = 1 + SESSION_WORDS
+NAMES_WORDS = NAME_WORDS * MAX_NAMES
 
 MEANINGS = {
     1: "a text line with which no text of the rule can go on, or an end too early",
     2: "in a text an extent above 4,294,967,295 or a seg above 1,048,576; a read's answer given to a watch that is "
     "neither a distance from 1 to 256 nor cold with such a number; a store above 1,024; a number of customers that is "
-    "not 1 to 8",
+    "not 1 to 8; a name that is not 1 to 8",
     3: "the segs of a plan do not add up to the log",
     4: "a plan text over 65,536 bytes, a ninth join open, a seventeenth part of one join",
     5: "words that are not a well-formed summary",
@@ -59,6 +62,7 @@ MEANINGS = {
     8: "more than 1,048,576 reads would result",
     9: "more than 256 different extents would result",
     10: "the least shares add up to more than the store",
+    11: "a return to a name that is not set",
 }
 
 
@@ -124,6 +128,9 @@ def _load(library):
         "session_summary": lent + lent,
         "session_misses": lent + number,
         "session_share": lent + number + place,
+        "names_new": lent,
+        "session_name": lent + lent + number,
+        "session_return": lent + lent + number,
         "watch_new": number + lent,
         "watch_read": lent + number,
         "watch_misses": lent,
@@ -195,6 +202,11 @@ def _writable(words):
         view.release()
         raise TypeError("words that can be written to are wanted")
     return view
+
+
+def _apart(view, count):
+    """A view of a copy of the first words, so that what a call writes to overlaps them in nothing."""
+    return memoryview(view[:count].tobytes()).cast("I")
 
 
 def _zeros(count, typecode="I"):
@@ -327,13 +339,33 @@ def listing(text):
     return _written("list", _zeros(LISTING_BYTES, "B"), _text(text)).tobytes()
 
 
+def _name(name):
+    """The number, where it is a name; any other number is refused as 0 is."""
+    number = operator.index(name)
+    return number if 1 <= number <= MAX_NAMES else 0
+
+
+def _new_names():
+    """The words of names of which none is set."""
+    names = _zeros(NAMES_WORDS)
+    with _writable(names) as words:
+        _call("names_new", words)
+    return names
+
+
 class Session:
     """A log taken read by read. `words` is its whole state, an array('I'), which may be kept and copied, or set to any
     buffer of words that can be written to.
 
+    The present session can be put under a name, a number from 1 to 8, and returned to as often as wanted. `names` has the
+    words of the names, an array('I'), which may be kept, copied and set like `words`; it is None before the first naming or
+    return. Copies and pickles of a session have its names.
+
     `sums_read` and `slots_looked` are those of the last read accepted here, 0 before it. The first is the number of sums
     read, 0 for a cold read. The second is the number of slots looked at, after any move of the marks: from the one below
     the next slot down to the extent's own mark, or all below the next slot for a cold read."""
+
+    names = None
 
     def __init__(self):
         self.sums_read = self.slots_looked = 0
@@ -343,7 +375,7 @@ class Session:
 
     @classmethod
     def resume(cls, words):
-        """A session that goes on from a copy of these words."""
+        """A session that goes on from a copy of these words, with no name set."""
         session = cls()
         with _words(words) as view:
             session.words = array("I", view.tobytes())
@@ -371,6 +403,22 @@ class Session:
         where there are none. Refusal: 7."""
         with _state(self.words) as words:
             return _share("session_share", words, _number(size))
+
+    def _names(self):
+        """The words of the names, made here where there are none; of two threads that make them one has its way."""
+        return vars(self).setdefault("names", _new_names()) if self.names is None else self.names
+
+    def name(self, name):
+        """Puts the present session under a name, in place of what was there. Refusals: 2, 7, 6."""
+        number = _name(name)
+        with _state(self.words) as words, _writable(self._names()) as names, _apart(words, SESSION_WORDS) as copy:
+            _call("session_name", copy, names, number)
+
+    def return_to(self, name):
+        """Makes the session under a name the present one, whatever that is; no name is forgotten. Refusals: 2, 11, 7, 6."""
+        number = _name(name)
+        with _writable(self.words) as words, _state(self._names()) as names, _apart(names, NAMES_WORDS) as copy:
+            _call("session_return", words, copy, number)
 
 
 class Watch:

@@ -3,7 +3,7 @@
 
 Run python/build first. What the calls answer is compared with an independent implementation in tests/. The answers of
 reads and what a watch takes of them are tested in test_answers.py, what a session tells beside them in
-test_slots_looked.py.
+test_slots_looked.py, its named moments in test_moments.py.
 """
 import ctypes
 import mmap
@@ -190,7 +190,7 @@ class Calls(Refusing):
         self.assertEqual(pickle.loads(pickle.dumps(session)).misses(2), 4)
 
     def test_refusals_and_their_meanings(self):
-        self.assertEqual(sorted(jemqolu.MEANINGS), list(range(1, 11)))
+        self.assertEqual(sorted(jemqolu.MEANINGS), list(range(1, 12)))
         self.refused(1, jemqolu.listing, "(trace\n (read \u00e9))\n")
         self.refused(1, jemqolu.listing, "\ud800")
         self.refused(2, jemqolu.listing, b"(trace\n (read 4294967296))\n")
@@ -202,6 +202,7 @@ class Calls(Refusing):
         self.refused(8, jemqolu.distances, [0, 0], array("I", bytes(4 * (jemqolu.MAX_READS + 1))))
         self.refused(9, jemqolu.summarize, range(257))
         self.refused(10, jemqolu.split, 2, [1, 2], [ONES, TWOS])
+        self.refused(11, jemqolu.Session().return_to, 1)
         refusal = pickle.loads(pickle.dumps(jemqolu.Refusal(7)))
         self.assertEqual((refusal.number, str(refusal)), (7, "refused with 7: " + jemqolu.MEANINGS[7]))
 
@@ -386,8 +387,8 @@ class States(unittest.TestCase):
         self.assertEqual((session.read(7).distance, session.misses(0)), (1, 9))
 
 
-class Threads(unittest.TestCase):
-    """Another thread changes what a call is lent: the call has a copy or holds the buffer, or the change is refused."""
+class Beside(unittest.TestCase):
+    """Calls while another thread changes what they are lent."""
 
     def beside(self, change, call, rounds):
         stop, failures = threading.Event(), []
@@ -425,6 +426,10 @@ class Threads(unittest.TestCase):
             cells.extend(part)
 
         return change
+
+
+class Threads(Beside):
+    """Another thread changes what a call is lent: the call has a copy or holds the buffer, or the change is refused."""
 
     def test_a_list(self):
         log = LOG * 300

@@ -2,6 +2,7 @@
 //! on a refusal anything at all.
 
 use crate::guard::{Cell, Lent};
+use crate::plain::names;
 use crate::plain::plans::{Carried, LEVEL_WORDS};
 use crate::plain::session::{self, Reading};
 use crate::plain::splits::Split;
@@ -157,6 +158,40 @@ pub fn session_share(session: &[u32], size: u32) -> Answer<Option<f64>> {
     let answer = ffi::session_share(session.cells(), size, &mut share.cells_mut()[0]);
     session.assert_kept();
     shared(answer, &share)
+}
+
+/// Names of which none is set, in a buffer of `room` words.
+#[track_caller]
+pub fn names_new(room: usize) -> Answer<Vec<u32>> {
+    let mut names = Lent::room(room);
+    let answer = ffi::names_new(names.cells_mut());
+    written(answer, &names)
+}
+
+/// A session put under a name, whose place is changed there.
+#[track_caller]
+pub fn session_name(session: &[u32], words: &mut [u32], name: u32) -> Answer<u64> {
+    let (session, mut names) = (Lent::holding(session), Lent::holding(words));
+    let answer = ffi::session_name(session.cells(), names.cells_mut(), name);
+    session.assert_kept();
+    match answer {
+        Ok(_) => words[names::place(name)].copy_from_slice(names.written_at(names::place(name))),
+        Err(_) => names.assert_kept(),
+    }
+    answer.map(|value| value as u64)
+}
+
+/// A return to the session under a name, which comes to the front of the words.
+#[track_caller]
+pub fn session_return(words: &mut [u32], names: &[u32], name: u32) -> Answer<u64> {
+    let (mut session, names) = (Lent::holding(words), Lent::holding(names));
+    let answer = ffi::session_return(session.cells_mut(), names.cells(), name);
+    names.assert_kept();
+    match answer {
+        Ok(_) => words[..session::WORDS].copy_from_slice(session.written(session::WORDS)),
+        Err(_) => session.assert_kept(),
+    }
+    answer.map(|value| value as u64)
 }
 
 /// A new watch in a buffer of `room` words.

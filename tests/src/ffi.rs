@@ -54,6 +54,21 @@ mod raw {
         pub fn jemqolu_session_summary(session: *const u32, session_len: usize, out: *mut u32, out_len: usize) -> i64;
         pub fn jemqolu_session_misses(session: *const u32, session_len: usize, size: u32) -> i64;
         pub fn jemqolu_session_share(session: *const u32, session_len: usize, size: u32, share: *mut f64) -> i64;
+        pub fn jemqolu_names_new(names: *mut u32, names_len: usize) -> i64;
+        pub fn jemqolu_session_name(
+            session: *const u32,
+            session_len: usize,
+            names: *mut u32,
+            names_len: usize,
+            name: u32,
+        ) -> i64;
+        pub fn jemqolu_session_return(
+            session: *mut u32,
+            session_len: usize,
+            names: *const u32,
+            names_len: usize,
+            name: u32,
+        ) -> i64;
         pub fn jemqolu_watch_new(size: u32, watch: *mut u32, watch_len: usize) -> i64;
         pub fn jemqolu_watch_read(watch: *mut u32, watch_len: usize, word: u32) -> i64;
         pub fn jemqolu_watch_misses(watch: *const u32, watch_len: usize) -> i64;
@@ -152,6 +167,23 @@ pub fn session_misses(session: &[u32], size: u32) -> Answer<usize> {
 /// The hit share of a cache of `size` extents that reads a session's log; 1, or 0 where there are no reads but cold ones.
 pub fn session_share(session: &[u32], size: u32, share: &mut f64) -> Answer<usize> {
     answer(unsafe { raw::jemqolu_session_share(session.as_ptr(), session.len(), size, share) })
+}
+
+/// Names of which none is set; their words.
+pub fn names_new(names: &mut [u32]) -> Answer<usize> {
+    answer(unsafe { raw::jemqolu_names_new(names.as_mut_ptr(), names.len()) })
+}
+
+/// A session put under a name; 0.
+pub fn session_name(session: &[u32], names: &mut [u32], name: u32) -> Answer<usize> {
+    answer(unsafe { raw::jemqolu_session_name(session.as_ptr(), session.len(), names.as_mut_ptr(), names.len(), name) })
+}
+
+/// A return to the session under a name; 0.
+pub fn session_return(session: &mut [u32], names: &[u32], name: u32) -> Answer<usize> {
+    answer(unsafe {
+        raw::jemqolu_session_return(session.as_mut_ptr(), session.len(), names.as_ptr(), names.len(), name)
+    })
 }
 
 /// A new watch on a cache of `size` extents; its words.

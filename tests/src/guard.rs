@@ -1,6 +1,7 @@
 //! Memory lent to a call, between guards.
 
 use std::fmt::Debug;
+use std::ops::Range;
 
 /// Cells on each side of what is lent; odd, so that what is lent starts at no rounder address than its kind needs.
 const GUARD: usize = 7;
@@ -61,14 +62,20 @@ impl<T: Cell> Lent<T> {
         &mut self.all[GUARD..end]
     }
 
+    /// The cells of these places, which were written; fails where another cell or a guard has changed.
+    #[track_caller]
+    pub fn written_at(&self, places: Range<usize>) -> &[T] {
+        assert!(places.end <= self.cells().len(), "{places:?} written of {} cells lent", self.cells().len());
+        let (front, past) = (GUARD + places.start, GUARD + places.end);
+        assert!(self.all[..front] == self.before[..front], "a cell or the guard before {places:?} has changed");
+        assert!(self.all[past..] == self.before[past..], "a cell or the guard past {places:?} has changed");
+        &self.cells()[places]
+    }
+
     /// The first cells, which were written; fails where a cell past them or a guard has changed.
     #[track_caller]
     pub fn written(&self, len: usize) -> &[T] {
-        assert!(len <= self.cells().len(), "{len} cells written of {} lent", self.cells().len());
-        let past = GUARD + len;
-        assert!(self.all[..GUARD] == self.before[..GUARD], "the guard before what was lent has changed");
-        assert!(self.all[past..] == self.before[past..], "a cell past the {len} written has changed");
-        &self.cells()[..len]
+        self.written_at(0..len)
     }
 
     /// Fails where a cell or a guard has changed.

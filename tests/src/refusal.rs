@@ -3,7 +3,7 @@
 /// A text line with which no text of the rule can go on, or an end too early.
 pub const LINE: i64 = 1;
 /// An extent, a seg or a store that is too large, a watched word that is neither a distance nor a cold read, or a
-/// number of customers that is not 1 to 8.
+/// number of customers or a name that is not 1 to 8.
 pub const NUMBER: i64 = 2;
 /// The segs of a plan do not add up to the log.
 pub const SEGS: i64 = 3;
@@ -21,3 +21,5 @@ pub const READS: i64 = 8;
 pub const EXTENTS: i64 = 9;
 /// The least shares add up to more than the store.
 pub const SHARES: i64 = 10;
+/// A return to a name that is not set.
+pub const NAME: i64 = 11;

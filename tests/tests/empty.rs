@@ -30,6 +30,15 @@ fn a_slice_of_no_words_may_have_any_pointer() {
     assert_eq!(ffi::session_share(&[], 1, &mut share), Err(refusal::STATE));
     assert_eq!(ffi::session_misses(&session::new(), 1), Ok(0));
     assert_eq!(ffi::session_share(&session::new(), 1, &mut share), Ok(0));
+    assert_eq!(ffi::names_new(&mut []), Err(refusal::ROOM));
+    assert_eq!(ffi::session_name(&[], &mut [], 9), Err(refusal::NUMBER));
+    assert_eq!(ffi::session_name(&[], &mut [], 1), Err(refusal::STATE));
+    assert_eq!(ffi::session_name(&session::new(), &mut [], 1), Err(refusal::ROOM));
+    assert_eq!(ffi::session_return(&mut [], &[], 0), Err(refusal::NUMBER));
+    assert_eq!(ffi::session_return(&mut [], &[], 8), Err(refusal::NAME));
+    assert_eq!(ffi::session_return(&mut [], &[0; 2050], 1), Err(refusal::NAME));
+    assert_eq!(ffi::session_return(&mut [], &[1; 2050], 1), Err(refusal::STATE));
+    assert_eq!(ffi::session_return(&mut [], &[&[1][..], &session::new()].concat(), 1), Err(refusal::ROOM));
     assert_eq!(ffi::watch_new(1, &mut []), Err(refusal::ROOM));
     assert_eq!(ffi::watch_read(&mut [], 1), Err(refusal::STATE));
     assert_eq!(ffi::watch_misses(&[]), Err(refusal::STATE));

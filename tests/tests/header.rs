@@ -1,11 +1,11 @@
 //! The header: its calls are those declared in `ffi`, and its limits and refusals those of the definitions.
 
 use jemqolu_tests::header::{number, HEADER};
-use jemqolu_tests::plain::{plans, session, splits, watch, COLD_BASE, MAX_EXTENTS, MAX_READS};
+use jemqolu_tests::plain::{names, plans, session, splits, watch, COLD_BASE, MAX_EXTENTS, MAX_READS};
 use jemqolu_tests::refusal;
 
 /// The declarations as they stand in the header, line ends and indents aside.
-const CALLS: [&str; 17] = [
+const CALLS: [&str; 20] = [
     "jemqolu_summarize(const uint32_t *reads, size_t reads_len, uint32_t *out, size_t out_len)",
     "jemqolu_join(const uint32_t *a, size_t a_len, const uint32_t *b, size_t b_len, uint32_t *out, size_t out_len)",
     "jemqolu_distances(const uint32_t *prefix, size_t prefix_len, const uint32_t *reads, size_t reads_len, \
@@ -23,6 +23,11 @@ const CALLS: [&str; 17] = [
     "jemqolu_session_summary(const uint32_t *session, size_t session_len, uint32_t *out, size_t out_len)",
     "jemqolu_session_misses(const uint32_t *session, size_t session_len, uint32_t size)",
     "jemqolu_session_share(const uint32_t *session, size_t session_len, uint32_t size, double *share)",
+    "jemqolu_names_new(uint32_t *names, size_t names_len)",
+    "jemqolu_session_name(const uint32_t *session, size_t session_len, \
+     uint32_t *names, size_t names_len, uint32_t name)",
+    "jemqolu_session_return(uint32_t *session, size_t session_len, \
+     const uint32_t *names, size_t names_len, uint32_t name)",
     "jemqolu_watch_new(uint32_t size, uint32_t *watch, size_t watch_len)",
     "jemqolu_watch_read(uint32_t *watch, size_t watch_len, uint32_t word)",
     "jemqolu_watch_misses(const uint32_t *watch, size_t watch_len)",
@@ -46,12 +51,15 @@ fn the_header_has_the_limits_of_the_definitions() {
     assert_eq!(number("MAX_SEG"), MAX_READS);
     assert_eq!(number("MAX_STORE"), u64::from(splits::MAX_STORE));
     assert_eq!(number("MAX_CUSTOMERS"), splits::MAX_CUSTOMERS as u64);
+    assert_eq!(number("MAX_NAMES"), u64::from(names::MAX_NAMES));
     assert_eq!(number("COLD_BASE"), u64::from(COLD_BASE));
     assert_eq!(number("SUMMARY_WORDS"), 2 + 3 * MAX_EXTENTS as u64);
     assert_eq!(number("LEVEL_WORDS"), plans::LEVEL_WORDS as u64);
     assert_eq!(number("WORK_WORDS"), (plans::LEVEL_WORDS * plans::MAX_DEPTH) as u64);
     assert_eq!(number("SESSION_WORDS"), session::WORDS as u64);
     assert_eq!(number("WATCH_WORDS"), watch::WORDS as u64);
+    assert_eq!(number("NAME_WORDS"), names::NAME_WORDS as u64);
+    assert_eq!(number("NAMES_WORDS"), names::WORDS as u64);
     let longest_row = " (at 256 1048576)\n".len() as u64;
     assert!(number("LISTING_BYTES") >= (MAX_EXTENTS as u64 + 3) * longest_row);
 }
@@ -67,6 +75,6 @@ fn the_header_names_the_refusals() {
     assert_eq!(["LINE", "NUMBER", "SEGS"].map(named), [refusal::LINE, refusal::NUMBER, refusal::SEGS]);
     assert_eq!(["PLAN", "SUMMARY", "ROOM"].map(named), [refusal::PLAN, refusal::SUMMARY, refusal::ROOM]);
     assert_eq!(["STATE", "READS", "EXTENTS"].map(named), [refusal::STATE, refusal::READS, refusal::EXTENTS]);
-    assert_eq!(named("SHARES"), refusal::SHARES);
-    assert_eq!(HEADER.matches("    JEMQOLU_REFUSED_").count(), 10);
+    assert_eq!(["SHARES", "NAME"].map(named), [refusal::SHARES, refusal::NAME]);
+    assert_eq!(HEADER.matches("    JEMQOLU_REFUSED_").count(), 11);
 }

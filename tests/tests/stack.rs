@@ -3,8 +3,8 @@
 use jemqolu_tests::header::number;
 use jemqolu_tests::plain::plans::{Plan, LEVEL_WORDS, MAX_DEPTH, MAX_PARTS};
 use jemqolu_tests::plain::splits::{MAX_CUSTOMERS, MAX_STORE};
-use jemqolu_tests::plain::{logs, session, COLD_BASE, MAX_READS};
-use jemqolu_tests::{ffi, Answer};
+use jemqolu_tests::plain::{logs, names, session, COLD_BASE, MAX_READS};
+use jemqolu_tests::{ffi, refusal, Answer};
 use std::thread;
 
 /// What a thread itself takes of its stack: a page, and no less on Linux with glibc.
@@ -86,6 +86,19 @@ fn sessions() {
     assert_eq!(with_little_stack(|| ffi::session_summary(&words, &mut out)), Ok(770));
     assert!(with_little_stack(|| ffi::session_misses(&words, 9)).is_ok());
     assert_eq!(with_little_stack(|| ffi::session_share(&words, 9, &mut share)), Ok(1));
+}
+
+#[test]
+fn moments() {
+    let (mut words, mut names) = (session::of(&long_trace()[..2000]), vec![1; names::WORDS]);
+    assert_eq!(with_little_stack(|| ffi::names_new(&mut names)), Ok(names::WORDS));
+    assert_eq!(with_little_stack(|| ffi::session_return(&mut words, &names, 8)), Err(refusal::NAME));
+    assert_eq!(with_little_stack(|| ffi::session_name(&words, &mut names, 8)), Ok(0));
+    assert_eq!(with_little_stack(|| ffi::session_return(&mut words, &names, 8)), Ok(0));
+    names[names::WORDS - 1] ^= 1;
+    assert_eq!(with_little_stack(|| ffi::session_return(&mut words, &names, 8)), Err(refusal::STATE));
+    words[session::NEXT] ^= 1;
+    assert_eq!(with_little_stack(|| ffi::session_name(&words, &mut names, 8)), Err(refusal::STATE));
 }
 
 #[test]

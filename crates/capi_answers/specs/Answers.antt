@@ -15,6 +15,8 @@ use Rattle.session.specs.declared.Answer.{Answer}
 use Rattle.session.specs.declared.Answer.the-variants.{Cold, Distance, Refused as NoRead}
 use Rattle.split_calls.specs.declared.SplitAnswer.{SplitAnswer}
 use Rattle.split_calls.specs.declared.SplitAnswer.the-variants.{Misses as SplitMisses, Refused as NoSplit}
+use Rattle.moments.specs.declared.MomentAnswer.{MomentAnswer}
+use Rattle.moments.specs.declared.MomentAnswer.the-variants.{Done, Refused as NotDone}
 use Rattle.watch.specs.declared.Outcome.{Outcome}
 use Rattle.watch.specs.declared.Outcome.the-variants.{Counted, Refused as NotCounted}
 
@@ -71,6 +73,11 @@ noted (NotCounted n) = negative n
 abbrev pub missedInAll : SplitAnswer → ℤ
 missedInAll (SplitMisses n) = pos n
 missedInAll (NoSplit n) = negative n
+
+-- 0 for a naming or a return that was done, or the refusal
+abbrev pub done : MomentAnswer → ℤ
+done Done = pos 0
+done (NotDone n) = negative n
 
 -- the largest signed number
 abbrev pub mostSigned : ℕ

@@ -1,4 +1,5 @@
 // Answers as one signed number: what was asked for, or the negative of the refusal's number.
+use moments::MomentAnswer;
 use session::Answer;
 use split_calls::SplitAnswer;
 use summary_calls::HitShare;
@@ -9,7 +10,7 @@ use watch::Outcome;
 ghost use mathlib.Core.Path.{_≡_};
 ghost use Prim.Native.Nat.{min};
 ghost use lib.IntN.{pos};
-ghost use Rattle.capi_answers.specs.Answers.{negative, mostSigned, countedMost, missed, shared, shareLeft, told, sumsLeft, slotsLeft, noted, missedInAll};
+ghost use Rattle.capi_answers.specs.Answers.{negative, mostSigned, countedMost, missed, shared, shareLeft, told, sumsLeft, slotsLeft, noted, missedInAll, done};
 
 // The largest signed number.
 const MOST: usize = 9223372036854775807;
@@ -111,5 +112,15 @@ pub fn split(a: SplitAnswer) -> i64
     match a {
         SplitAnswer::Misses(n) => n as i64,
         SplitAnswer::Refused(n) => refusal(n),
+    }
+}
+
+// 0 for a naming or a return that was done, or the refusal.
+pub fn moment(a: MomentAnswer) -> i64
+    ensures { λ r. ⌜ r ≡ done a ⌝ }
+{
+    match a {
+        MomentAnswer::Done => 0,
+        MomentAnswer::Refused(n) => refusal(n),
     }
 }

@@ -28,3 +28,7 @@ maxStore = 1_024
 -- the most customers of one store
 abbrev pub maxCustomers : ℕ
 maxCustomers = 8
+
+-- the names for moments are the numbers from 1 to this
+abbrev pub maxNames : ℕ
+maxNames = 8

@@ -1,6 +1,6 @@
 // Reuse distances: the definitions, their laws, and the limits.
 ghost use mathlib.Core.Path.{_≡_};
-ghost use Rattle.reuse.specs.Limits.{maxReads, maxExtents, slotCount, sumCount, levels, maxStore, maxCustomers};
+ghost use Rattle.reuse.specs.Limits.{maxReads, maxExtents, slotCount, sumCount, levels, maxStore, maxCustomers, maxNames};
 
 // The most reads of a trace.
 pub const MAX_READS: u32 = 1048576;
@@ -18,6 +18,8 @@ pub const COLD_BASE: u32 = 65536;
 pub const MAX_STORE: usize = 1024;
 // The most customers of one store.
 pub const MAX_CUSTOMERS: usize = 8;
+// The names for moments are the numbers from 1 to this.
+pub const MAX_NAMES: u32 = 8;
 
 // The limits that the code works with.
 pub struct Bounds {
@@ -28,11 +30,12 @@ pub struct Bounds {
     pub levels: u32,
     pub store: usize,
     pub customers: usize,
+    pub names: u32,
 }
 
 // The limits, for callers that size their buffers by them.
 pub fn limits() -> Bounds
-    ensures { λ r. ⌜ r ≡ record { reads = maxReads; extents = maxExtents; slots = slotCount; sums = sumCount; levels = levels; store = maxStore; customers = maxCustomers } ⌝ }
+    ensures { λ r. ⌜ r ≡ record { reads = maxReads; extents = maxExtents; slots = slotCount; sums = sumCount; levels = levels; store = maxStore; customers = maxCustomers; names = maxNames } ⌝ }
 {
     Bounds {
         reads: MAX_READS,
@@ -42,5 +45,6 @@ pub fn limits() -> Bounds
         levels: LEVELS,
         store: MAX_STORE,
         customers: MAX_CUSTOMERS,
+        names: MAX_NAMES,
     }
 }

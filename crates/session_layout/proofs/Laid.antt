@@ -160,3 +160,7 @@ module _ (s : Session) (wide : Wide (s .first) (s .hist) (s .slots) (s .sums)) w
   pub laid-read : (w : List ℕ) → sessionIn (putAt w 0 (sessionLaid s)) ≡ s
   unfolding putAt
   laid-read w = read-laid (drop (0 + length (sessionLaid s)) w)
+
+  -- so are its words alone
+  pub read-whole : sessionIn (sessionLaid s) ≡ s
+  read-whole = ap sessionIn (sym (append-nil (sessionLaid s))) ∙ read-laid []

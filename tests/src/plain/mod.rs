@@ -3,6 +3,8 @@
 pub mod cache;
 pub mod last_slots;
 pub mod logs;
+pub mod moments;
+pub mod names;
 pub mod plans;
 pub mod session;
 pub mod split_tables;

@@ -190,6 +190,15 @@ pub fn accept(words: &mut [u32], extent: u32) -> Reading {
     Reading { word, sums_read, slots_looked }
 }
 
+/// The session that has read a trace within the limits.
+pub fn of(trace: &[u32]) -> Vec<u32> {
+    let mut words = new();
+    for extent in trace {
+        accept(&mut words, *extent);
+    }
+    words
+}
+
 /// The call for one more read; a refusal leaves the session as it was.
 pub fn read(words: &mut [u32], extent: u32) -> Answer<Reading> {
     if !sound(words) {

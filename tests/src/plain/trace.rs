@@ -39,17 +39,18 @@ pub fn is_hit(word: u32, size: u32) -> bool {
     !is_cold(word) && word <= size
 }
 
-/// The word of each read. Its distance is the different extents from its previous read up to the read before it. Where
-/// there is no previous one, its number is 1 plus the different extents of all reads before it.
+/// The word of a read after others. Its distance is the different extents from its previous read up to the read before it.
+/// Where there is no previous one, its number is 1 plus the different extents of all reads before it.
+pub fn word_after(before: &[u32], extent: u32) -> u32 {
+    match before.iter().rposition(|other| *other == extent) {
+        Some(previous) => different(&before[previous..]) as u32,
+        None => COLD_BASE + 1 + different(before) as u32,
+    }
+}
+
+/// The word of each read.
 pub fn distances(trace: &[u32]) -> Vec<u32> {
-    let word = |read: usize| {
-        let before = &trace[..read];
-        match before.iter().rposition(|extent| *extent == trace[read]) {
-            Some(previous) => different(&before[previous..]) as u32,
-            None => COLD_BASE + 1 + different(before) as u32,
-        }
-    };
-    (0..trace.len()).map(word).collect()
+    (0..trace.len()).map(|read| word_after(&trace[..read], trace[read])).collect()
 }
 
 /// The LRU stack: the extents read so far, the latest on top, which is the front.

@@ -1,0 +1,184 @@
+//! Sessions to damage, and sessions damaged in all ways.
+
+use crate::made;
+use crate::plain::session::{self, COUNTS, FIRSTS, NEXT, READS, SLOT, SLOTS, SUMS, WORDS};
+use crate::plain::MAX_READS;
+use crate::random::Random;
+
+/// Sessions to damage: new, with few extents, with 255 and 256, with the marks about to move, and with all reads taken.
+pub fn bases() -> Vec<Vec<u32>> {
+    let mut random = Random::new(91);
+    let mut bases =
+        vec![session::new(), session::of(&[7, 3, 7, 9, 3, 3, 9]), session::of(&[5; 512]), session::of(&[0; 514])];
+    bases.push(session::of(&(0..256).collect::<Vec<u32>>()));
+    for (count, warm, next) in [(20, 100, 60), (256, 800, 512), (3, 9, 512), (130, 4, 300)] {
+        let extents = made::extents(&mut random, count);
+        bases.push(made::session_over(&mut random, &extents, warm, next));
+    }
+    for (apart, next) in [(1024, 400), (4096, 256)] {
+        let extents: Vec<u32> = (0..256).map(|place| place * apart).collect();
+        bases.push(made::session_over(&mut random, &extents, MAX_READS as usize - 256, next));
+    }
+    bases.push(session::of(&(1000..1255).collect::<Vec<u32>>()));
+    bases
+}
+
+/// What a word may be changed to: something near it, or another number that could stand there.
+fn change_of(random: &mut Random, words: &[u32], place: usize) -> [u32; 2] {
+    let (word, extent, bit) = (words[place], random.of(&words[FIRSTS]), 1 << random.below(32));
+    let near = random.of(&[word ^ 1, word.wrapping_sub(1), word ^ bit, u32::MAX]);
+    let other = random.of(&[extent, extent ^ 4096, word.wrapping_add(1 << 10), word.wrapping_add(1 << 12)]);
+    [near, other]
+}
+
+/// The session with each word changed in two ways, one at a time.
+pub fn each_word_changed(random: &mut Random, base: &[u32], mut visit: impl FnMut(&[u32])) {
+    let mut words = base.to_vec();
+    for place in 0..WORDS {
+        for change in change_of(random, base, place) {
+            words[place] = change;
+            visit(&words);
+        }
+        words[place] = base[place];
+    }
+}
+
+/// The session cut short, whole, and with words past it.
+pub fn lengths(base: &[u32]) -> Vec<Vec<u32>> {
+    let cut = [0, 1, 512, 1024, 2047, 2048, 2049].map(|len| base[..len].to_vec());
+    let longer = [&[0][..], &[1], &[u32::MAX; 3], &[5; 100]].map(|past| [base, past].concat());
+    cut.into_iter().chain(longer).collect()
+}
+
+/// Changes words of a session by one of twelve rules.
+fn change(random: &mut Random, words: &mut [u32], rule: usize) {
+    let (one, other) = (random.below(SLOTS), random.below(SLOTS));
+    let (first, second) = (FIRSTS.start + one / 2, FIRSTS.start + other / 2);
+    match rule {
+        0 => words.swap(first, second),
+        1 => words.swap(COUNTS.start + one / 2, COUNTS.start + other / 2),
+        2 => words.swap(SLOT.start + one, SLOT.start + other),
+        3 => words.swap(SUMS.start + one, SUMS.start + other),
+        4 => {
+            words.swap(SUMS.start + one, SUMS.start + other);
+            words.swap(SLOT.start + one, SLOT.start + other);
+            session::resum(words);
+        }
+        5 => {
+            words[READS] = words[READS].wrapping_add(1);
+            words[COUNTS.start + one / 2] += 1;
+        }
+        6 => words[NEXT] = random.below(SLOTS + 2) as u32,
+        7 => {
+            words[SUMS.start + one] ^= 1;
+            session::resum(words);
+        }
+        8 => words[first] = words[second],
+        9 => {
+            let extent = words[SLOT.start + other];
+            words[SLOT.start + one] = extent;
+        }
+        10 => words.swap(SUMS.start + SLOTS + one / 2, SUMS.start + SLOTS + other / 2),
+        _ => rename(words, words[first], random.word()),
+    }
+}
+
+/// Gives an extent another number in F and in its slot.
+fn rename(words: &mut [u32], from: u32, to: u32) {
+    for word in words[FIRSTS.start..FIRSTS.end].iter_mut().filter(|word| **word == from) {
+        *word = to;
+    }
+    for word in words[SLOT.start..SLOT.end].iter_mut().filter(|word| **word == from) {
+        *word = to;
+    }
+}
+
+/// A session with one or two changes, whether or not it is sound then.
+pub fn several_words_changed(random: &mut Random) -> Vec<u32> {
+    let mut words = made::session(random);
+    for _ in 0..1 + random.below(2) {
+        let rule = random.below(12);
+        change(random, &mut words, rule);
+    }
+    words
+}
+
+/// A session with marks in these slots, over the extents 10, 11 and so on, and so many reads that are not cold.
+fn marked(slots: &[usize], warm: u32, next: u32) -> Vec<u32> {
+    let mut words = session::new();
+    for (place, slot) in slots.iter().enumerate() {
+        words[SLOT][*slot] = 10 + place as u32;
+        words[SUMS][*slot] = 1;
+        if place < 256 {
+            words[FIRSTS][place] = 10 + place as u32;
+        }
+    }
+    words[COUNTS][0] = warm;
+    words[READS] = slots.len() as u32 + warm;
+    words[NEXT] = next;
+    session::resum(&mut words);
+    words
+}
+
+/// Four sound sessions, and fourteen that break one clause each.
+pub fn each_clause_broken() -> Vec<Vec<u32>> {
+    let (all, most): (Vec<usize>, u32) = ((0..300).collect(), MAX_READS as u32);
+    let mut list = vec![
+        marked(&[0, 5, 9], 4, 10),
+        marked(&[0, 511], 4, 512),
+        marked(&all[..256], 0, 256),
+        marked(&[0], most - 1, 1),
+    ];
+    list.extend([marked(&[0, 5, 9], 4, 9), marked(&[0, 511], 4, 511)]);
+    list.extend([marked(&all[..257], 0, 300), marked(&[0], most, 1)]);
+    list.extend([513, 514, 1024, 1 << 31, u32::MAX].map(|next| marked(&[0, 5], 4, next)));
+    for (place, word) in [(SLOT.start + 5, 10), (SLOT.start + 6, 12), (FIRSTS.start + 1, 10), (FIRSTS.start + 2, 11)] {
+        let mut words = marked(&[0, 5], 4, 9);
+        words[place] = word;
+        list.push(words);
+    }
+    let mut counted_above = marked(&[0, 5], 4, 9);
+    counted_above[COUNTS][2] = 1;
+    counted_above[READS] += 1;
+    list.push(counted_above);
+    list
+}
+
+/// Adds to a sum and to every sum above it, modulo 2^32.
+fn add_above(words: &mut [u32], place: usize, number: u32) {
+    let mut place = place;
+    while place < SUMS.len() {
+        words[SUMS][place] = words[SUMS][place].wrapping_add(number);
+        place = SLOTS + place / 2;
+    }
+}
+
+/// The session with each sum changed and all above it too, one at a time.
+pub fn each_sum_changed(random: &mut Random, base: &[u32], mut visit: impl FnMut(&[u32])) {
+    for place in 0..SUMS.len() {
+        let mut words = base.to_vec();
+        add_above(&mut words, place, random.of(&[1, 2, u32::MAX, 1 << 31]));
+        visit(&words);
+    }
+}
+
+/// Two sound sessions, and seven whose sums or counts agree only modulo 2^32 or not at all.
+pub fn sums_modulo() -> Vec<Vec<u32>> {
+    let sound = marked(&[0, 1, 6, 7], 4, 9);
+    let mut list = vec![sound.clone()];
+    for (places, one, other) in [
+        (SUMS.start, 2, 0),
+        (SUMS.start, 0, 2),
+        (SUMS.start, u32::MAX, 3),
+        (SUMS.start, 1 << 31, (1 << 31) + 2),
+        (COUNTS.start, 3, 1),
+        (COUNTS.start, u32::MAX, 5),
+        (COUNTS.start, 1 << 31, (1 << 31) + 4),
+        (SUMS.start + 512, u32::MAX, 3),
+    ] {
+        let mut words = sound.clone();
+        (words[places], words[places + 1]) = (one, other);
+        list.push(words);
+    }
+    list
+}
