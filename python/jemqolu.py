@@ -405,8 +405,10 @@ class Session:
             return _share("session_share", words, _number(size))
 
     def _names(self):
-        """The words of the names, made here where there are none; of two threads that make them one has its way."""
-        return vars(self).setdefault("names", _new_names()) if self.names is None else self.names
+        """The words of the names; where there are none, new ones, the same for all threads that ask at once."""
+        if self.names is None:
+            vars(self).setdefault("names", _new_names())
+        return self.names
 
     def name(self, name):
         """Puts the present session under a name, in place of what was there. Refusals: 2, 7, 6."""

@@ -29,8 +29,6 @@ class Account:
         self.log, self.named = [], {}
 
     def read(self, extent):
-        if len(set(self.log + [extent])) > MAX_EXTENTS:
-            raise jemqolu.Refusal(9)
         self.log = self.log + [extent]
         return counted(self.log)[-1]
 
@@ -55,22 +53,10 @@ def answer(planner, call, value):
         return refusal.number
 
 
-def lists_of_calls(source, count):
-    """Lists of reads, namings and returns, over few and many extents."""
-    for place in range(count):
-        extents = source.sample(range(MOST), (3, 20, 300)[place % 3])
-        for _ in range(1 + source.randrange(60)):
-            call = source.choice(("read", "read", "read", "read", "name", "return_to", "return_to"))
-            yield place, call, source.choice(extents) if call == "read" else source.randrange(-1, 11)
-
-
-def runs(source, count):
-    """The sessions and the accounts of lists of calls, with the answers of both."""
-    session, account, last = jemqolu.Session(), Account(), 0
-    for place, call, value in lists_of_calls(source, count):
-        if place != last:
-            session, account, last = jemqolu.Session(), Account(), place
-        yield session, account, answer(session, call, value), answer(account, call, value)
+def calls_over(source, extents):
+    """A list of calls by their names: reads of these extents, namings and returns."""
+    calls = source.choices(("read", "name", "return_to"), (4, 1, 2), k=1 + source.randrange(60))
+    return [(call, source.choice(extents) if call == "read" else source.randrange(-1, 11)) for call in calls]
 
 
 def named(session, name=1):
@@ -98,27 +84,34 @@ class Moments(Refusing):
         self.assertEqual(answers, [one, two, None, three, None, Answer.at(2), None, Answer.at(1), 11, 2])
         self.assertEqual(session.summary(), jemqolu.summarize([7, 3, 3]))
 
-    def test_lists_of_calls(self):
-        compared = refused = 0
-        for session, account, got, wanted in runs(random.Random(5), 150):
-            self.assertEqual(got, wanted)
+    def carried_out(self, calls):
+        """The session and the account after these calls, compared call by call, and how many were refused."""
+        session, account, refused = jemqolu.Session(), Account(), 0
+        for call, value in calls:
+            got = answer(session, call, value)
+            self.assertEqual(got, answer(account, call, value))
             self.assertEqual(session.words, session_of(account.log).words)
-            self.assertEqual(session.summary(), jemqolu.summarize(account.log))
-            self.assertEqual(session.misses(2), jemqolu.misses(jemqolu.summarize(account.log), 2))
-            compared, refused = compared + 1, refused + (got in (2, 11))
-        self.assertGreater(min(compared - refused, 3 * refused), 2000)
+            refused += got in (2, 11)
+        return session, account, refused
+
+    def test_lists_of_calls(self):
+        source, compared, all_refused = random.Random(5), 0, 0
+        for place in range(150):
+            calls = calls_over(source, source.sample(range(MOST), (3, 20, 300)[place % 3]))
+            session, account, refused = self.carried_out(calls)
+            summary = jemqolu.summarize(account.log)
+            self.assertEqual((session.summary(), session.misses(2)), (summary, jemqolu.misses(summary, 2)))
+            compared, all_refused = compared + len(calls), all_refused + refused
+        self.assertGreater(min(all_refused, compared - all_refused), 700)
 
     def test_parts_of_remembered_logs(self):
-        parts = {id(session): (session, account) for session, account, _, _ in list(runs(random.Random(6), 30))}
-        prefix, whole, answers = jemqolu.summarize([]), [], []
-        for session, account in parts.values():
-            log = [extent % 100 for extent in account.log]
-            part = named(session_of(log), 5)
-            part.return_to(5)
-            answers += jemqolu.distances(prefix, log)
-            prefix, whole = jemqolu.join(prefix, part.summary()), whole + log
-        self.assertEqual((len(parts), prefix), (30, jemqolu.summarize(whole)))
-        self.assertEqual(answers, counted(whole))
+        source, prefix, whole, answers = random.Random(6), [0, 0], [], []
+        for _ in range(40):
+            session, account, _ = self.carried_out(calls_over(source, range(100)))
+            answers += jemqolu.distances(prefix, account.log)
+            prefix, whole = jemqolu.join(prefix, session.summary()), whole + account.log
+        self.assertEqual((prefix, answers), (jemqolu.summarize(whole), counted(whole)))
+        self.assertGreater(len(whole), 200)
 
     def test_a_return_forgets_no_name(self):
         session, words = jemqolu.Session(), {}
@@ -355,14 +348,27 @@ class Threads(Beside):
         self.assertEqual(few, array("I", [1]))
 
     def test_the_first_naming_in_several_threads(self):
-        for _ in range(40):
-            session = session_of(LOG)
-            threads = [threading.Thread(target=session.name, args=[name]) for name in range(1, 9)]
-            for thread in threads:
-                thread.start()
-            for thread in threads:
-                thread.join()
-            self.assertEqual([session.names[place * NAME_WORDS] for place in range(8)], [1] * 8)
+        interval = sys.getswitchinterval()
+        sys.setswitchinterval(1e-6)
+        try:
+            for _ in range(100):
+                self.name_at_once(session_of(LOG), threading.Barrier(8))
+        finally:
+            sys.setswitchinterval(interval)
+
+    def name_at_once(self, session, barrier):
+        """Puts the session under all names, each in its own thread; none is lost."""
+
+        def name_it(name):
+            barrier.wait()
+            session.name(name)
+
+        threads = [threading.Thread(target=name_it, args=[name]) for name in range(1, 9)]
+        for thread in threads:
+            thread.start()
+        for thread in threads:
+            thread.join()
+        self.assertEqual([session.names[place * NAME_WORDS] for place in range(8)], [1] * 8)
 
 
 if __name__ == "__main__":

@@ -1,9 +1,27 @@
-//! Sessions to damage, and sessions damaged in all ways.
+//! Sessions to damage, sessions damaged in all ways, and a count of them.
 
 use crate::made;
 use crate::plain::session::{self, COUNTS, FIRSTS, NEXT, READS, SLOT, SLOTS, SUMS, WORDS};
 use crate::plain::MAX_READS;
 use crate::random::Random;
+
+/// How many of the sessions handed in were sound, and how many were not.
+#[derive(Default)]
+pub struct Seen {
+    pub sound: u32,
+    pub refused: u32,
+}
+
+impl Seen {
+    /// One more session.
+    pub fn count(&mut self, sound: bool) {
+        if sound {
+            self.sound += 1;
+        } else {
+            self.refused += 1;
+        }
+    }
+}
 
 /// Sessions to damage: new, with few extents, with 255 and 256, with the marks about to move, and with all reads taken.
 pub fn bases() -> Vec<Vec<u32>> {

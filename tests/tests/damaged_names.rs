@@ -1,20 +1,14 @@
 //! Words that may or may not be names, and sessions that may or may not be sound, given to all calls that take names.
 
+use jemqolu_tests::damage::{self, Seen};
 use jemqolu_tests::plain::names::{self, MAX_NAMES, NAME_WORDS};
 use jemqolu_tests::plain::session::{self, NEXT, SUMS};
 use jemqolu_tests::random::Random;
 use jemqolu_tests::tally::Tally;
-use jemqolu_tests::{calls, damage, made, refusal, Answer};
+use jemqolu_tests::{calls, made, refusal, Answer};
 
 /// Numbers that are no names, some with the place of one modulo 2^32.
 const NO_NAMES: [u32; 8] = [0, 9, 10, 1 << 30, 1 << 31, (1 << 31) + 1, (1 << 31) + 8, u32::MAX];
-
-/// How many of the sessions handed in were sound, and how many were not.
-#[derive(Default)]
-struct Seen {
-    sound: u32,
-    refused: u32,
-}
 
 /// Compares a naming, its answer and the names after it; the answer.
 #[track_caller]
@@ -71,13 +65,8 @@ fn compare(tally: &mut Tally, random: &mut Random, seen: &mut Seen, words: &[u32
     let names = names_with(random, name, 1 + turn % 2, words);
     let back = compare_return(tally, &present(turn), &names, name);
     tally.same(back, naming, &name);
-    match naming {
-        Ok(_) => seen.sound += 1,
-        Err(number) => {
-            assert_eq!(number, refusal::STATE);
-            seen.refused += 1;
-        }
-    }
+    assert!([Ok(0), Err(refusal::STATE)].contains(&naming), "{naming:?}");
+    seen.count(naming.is_ok());
 }
 
 #[test]
@@ -90,45 +79,37 @@ fn new_names() {
     tally.at_least(14);
 }
 
+/// All names and numbers that are none, each with several lengths of names.
+fn given() -> Vec<(u32, usize)> {
+    let lengths = [0, 1, 2049, 2050, 2051, 4100, 14_350, 16_399, 16_400, 18_450];
+    let numbers = (1..=MAX_NAMES).chain(NO_NAMES);
+    numbers.flat_map(|number| lengths.map(|len| (number, len))).collect()
+}
+
+/// The first of these refusals that applies.
+fn first(refusals: &[(bool, i64)]) -> Answer<u64> {
+    refusals.iter().find(|(applies, _)| *applies).map_or(Ok(0), |(_, number)| Err(*number))
+}
+
 #[test]
 fn refusals_of_a_naming_in_order() {
     let mut tally = Tally::new("namings that are refused for up to three reasons");
     let mut random = Random::new(181);
-    for _ in 0..4 {
-        let sound = made::session(&mut random);
-        let mut unsound = sound.clone();
-        unsound[SUMS.end - 1] ^= 1;
-        for session in [&sound, &unsound, &sound[..2048], &unsound[..2048], &[][..]] {
-            for len in [0, 1, 2049, 2050, 4099, 4100, 16_399, 16_400, 18_450, 20_500] {
-                let names = random_words(&mut random, len);
-                for name in NO_NAMES {
-                    let got = compare_naming(&mut tally, session, &names, name);
-                    tally.same(got, Err(refusal::NUMBER), &(name, len));
-                }
-                for name in 1..=MAX_NAMES {
-                    let wanted = match (session == sound, name as usize * 2050 <= len) {
-                        (false, _) => Err(refusal::STATE),
-                        (true, false) => Err(refusal::ROOM),
-                        (true, true) => Ok(0),
-                    };
-                    let got = compare_naming(&mut tally, session, &names, name);
-                    tally.same(got, wanted, &(name, len));
-                }
-            }
+    let sound = made::session(&mut random);
+    let mut unsound = sound.clone();
+    unsound[SUMS.end - 1] ^= 1;
+    // a ninth place, so that only its number tells that 9 is no name
+    let names = random_words(&mut random, 9 * NAME_WORDS);
+    for session in [&sound, &unsound, &sound[..2048], &unsound[..2048], &[][..]] {
+        for (name, len) in given() {
+            let outside = name as usize * NAME_WORDS > len;
+            let (no_name, not_sound) = (NO_NAMES.contains(&name), session != sound);
+            let wanted = first(&[(no_name, refusal::NUMBER), (not_sound, refusal::STATE), (outside, refusal::ROOM)]);
+            let got = compare_naming(&mut tally, session, &names[..len], name);
+            tally.same(got, wanted, &(name, session.len(), len));
         }
     }
-    tally.at_least(4 * 5 * 10 * 16 * 3);
-}
-
-/// The refusal of a return to a name, by the name, whether it is set, whether its session is sound, and the room for it.
-fn wanted_return(named: bool, set: bool, sound: bool, room: bool) -> Answer<u64> {
-    match (named, set, sound, room) {
-        (false, ..) => Err(refusal::NUMBER),
-        (true, false, ..) => Err(refusal::NAME),
-        (true, true, false, _) => Err(refusal::STATE),
-        (true, true, true, false) => Err(refusal::ROOM),
-        (true, true, true, true) => Ok(0),
-    }
+    tally.at_least(5 * 160 * 3);
 }
 
 #[test]
@@ -138,22 +119,23 @@ fn refusals_of_a_return_in_order() {
     for (set, sound) in [(0, false), (0, true), (1, false), (1, true), (7, true), (u32::MAX, false), (1 << 31, true)] {
         let mut under = made::session(&mut random);
         under[SUMS.end - 1] ^= u32::from(!sound);
-        // a ninth place, so that only its number tells that 9 is no name
         let names = [&[set], &under[..]].concat().repeat(9);
         for room in [0, 1, 2047, 2048, 2049, 2050, 4100] {
             let session = random_words(&mut random, room);
-            for name in (1..=MAX_NAMES).chain(NO_NAMES) {
-                let named = name % 9 == name && name > 0;
-                for len in [0, 1, 2049, 2050, 2051, 14_350, 16_399, 16_400, 18_450] {
-                    let within = names::place(name.clamp(1, 9)).end <= len;
-                    let wanted = wanted_return(named, within && set != 0, sound, room >= session::WORDS);
-                    let got = compare_return(&mut tally, &session, &names[..len], name);
-                    tally.same(got, wanted, &(name, set, sound, room, len));
-                }
+            for (name, len) in given() {
+                let not_set = set == 0 || name as usize * NAME_WORDS > len;
+                let wanted = first(&[
+                    (NO_NAMES.contains(&name), refusal::NUMBER),
+                    (not_set, refusal::NAME),
+                    (!sound, refusal::STATE),
+                    (room < session::WORDS, refusal::ROOM),
+                ]);
+                let got = compare_return(&mut tally, &session, &names[..len], name);
+                tally.same(got, wanted, &(name, set, sound, room, len));
             }
         }
     }
-    tally.at_least(7 * 7 * 16 * 9 * 3);
+    tally.at_least(7 * 7 * 160 * 3);
 }
 
 #[test]

@@ -1,16 +1,10 @@
 //! Words that may or may not be a session, given to all calls that take one.
 
+use jemqolu_tests::calls;
+use jemqolu_tests::damage::{self, Seen};
 use jemqolu_tests::plain::session::{self, FIRSTS, SUMS};
 use jemqolu_tests::random::Random;
 use jemqolu_tests::tally::Tally;
-use jemqolu_tests::{calls, damage};
-
-/// How many of the sessions handed in were sound, and how many were not.
-#[derive(Default)]
-struct Seen {
-    sound: u32,
-    refused: u32,
-}
 
 /// Sizes to try in turn: none, 1, the number of extents, one more, and the largest.
 fn size(words: &[u32], turn: u32) -> u32 {
@@ -31,11 +25,7 @@ fn compare(tally: &mut Tally, seen: &mut Seen, words: &[u32], extent: u32) {
     tally.same(calls::session_read(&mut got, extent), answer, &context);
     tally.same(got == wanted, true, &context);
     let summary = session::summary(words);
-    if summary.is_ok() {
-        seen.sound += 1;
-    } else {
-        seen.refused += 1;
-    }
+    seen.count(summary.is_ok());
     tally.same(calls::session_summary(words, 770), summary, &context);
     let size = size(words, seen.sound + seen.refused);
     tally.same(calls::session_misses(words, size), session::misses(words, size), &(size, &context));

@@ -1,12 +1,14 @@
 //! The plain definitions among themselves: they are what the library is compared with.
 
-use jemqolu_tests::made;
+use jemqolu_tests::plain::moments::Moments;
+use jemqolu_tests::plain::names::{self, MAX_NAMES};
 use jemqolu_tests::plain::session::Reading;
 use jemqolu_tests::plain::splits::{self, Customer};
 use jemqolu_tests::plain::trace::{self, Stack};
 use jemqolu_tests::plain::{cache, last_slots, logs, plans, session, split_tables, summary, MAX_EXTENTS};
 use jemqolu_tests::random::Random;
 use jemqolu_tests::tally::Tally;
+use jemqolu_tests::{made, runs};
 
 const THREE: [u32; 3] = [0, 4096, u32::MAX];
 
@@ -146,6 +148,23 @@ fn a_session_answers_as_the_last_slots_do() {
         tally.same(last_slots::readings(&trace), answers, &trace);
     }
     tally.at_least(40);
+}
+
+#[test]
+fn named_moments_by_logs_are_those_by_words() {
+    let mut tally = Tally::new("named moments by logs and by words");
+    let mut random = Random::new(18);
+    for round in 0..32 {
+        let extents = made::extents(&mut random, [3, 40, 300][round % 3]);
+        let room = 1 + round as u32 % MAX_NAMES;
+        let (mut words, mut names) = (session::new(), names::new()[..names::place(room).end].to_vec());
+        let mut moments = Moments::new(room);
+        for call in runs::list(&mut random, &extents, 300, 20) {
+            tally.same(names::answer(&mut words, &mut names, call), moments.answer(call), &call);
+        }
+        tally.same(words, session::of(&moments.log), &moments.log);
+    }
+    tally.at_least(32 * 301);
 }
 
 #[test]

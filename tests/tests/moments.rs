@@ -1,7 +1,7 @@
 //! Sessions with named moments: reads, namings and returns, call by call.
 
 use jemqolu_tests::parts::{self, Part};
-use jemqolu_tests::plain::moments::Call::{self, Name, Read, Return};
+use jemqolu_tests::plain::names::Call::{self, Name, Read, Return};
 use jemqolu_tests::plain::names::{self, MAX_NAMES};
 use jemqolu_tests::plain::{cache, hit_share, session, summary, COLD_BASE, MAX_EXTENTS, MAX_READS};
 use jemqolu_tests::random::Random;
@@ -9,21 +9,22 @@ use jemqolu_tests::runs::{self, Run};
 use jemqolu_tests::tally::Tally;
 use jemqolu_tests::{calls, made, refusal, Answer};
 
-const DONE: Answer<u64> = Ok(0);
+/// The answer of a naming or a return that is done.
+const DONE: Answer<usize> = Ok(0);
 
 /// The answer of a cold read of this number.
-fn cold(number: u32) -> Answer<u64> {
-    Ok(u64::from(COLD_BASE + number))
+fn cold(number: usize) -> Answer<usize> {
+    Ok(COLD_BASE as usize + number)
 }
 
 /// Carries out calls in a row; their answers.
-fn carry_out(tally: &mut Tally, run: &mut Run, list: &[Call]) -> Vec<Answer<u64>> {
+fn carry_out(tally: &mut Tally, run: &mut Run, list: &[Call]) -> Vec<Answer<usize>> {
     list.iter().map(|call| run.call(tally, *call)).collect()
 }
 
 /// Carries out calls in a row, with these answers.
 #[track_caller]
-fn answered(tally: &mut Tally, run: &mut Run, list: &[Call], wanted: &[Answer<u64>]) {
+fn answered(tally: &mut Tally, run: &mut Run, list: &[Call], wanted: &[Answer<usize>]) {
     let got = carry_out(tally, run, list);
     tally.same(&got[..], wanted, &list);
 }
@@ -137,14 +138,14 @@ fn random_lists_of_calls() {
     let mut random = Random::new(172);
     let mut seen = Vec::new();
     for round in 0..96 {
-        let (count, among, most) = [(120, 4, 5), (300, 12, 30), (420, 60, 300)][round % 3];
+        let (count, among, most) = [(120, 4, 5), (300, 12, 30), (600, 100, 400)][round % 3];
         let extents = made::extents(&mut random, most);
         let list = runs::list(&mut random, &extents, count, among);
         let mut run = Run::new(1 + round as u32 % MAX_NAMES);
         seen.extend(carry_out(&mut tally, &mut run, &list));
         compare_log(&mut tally, &run);
     }
-    for number in [refusal::NUMBER, refusal::ROOM, refusal::NAME] {
+    for number in [refusal::NUMBER, refusal::ROOM, refusal::EXTENTS, refusal::NAME] {
         let refused = seen.iter().filter(|answer| **answer == Err(number)).count();
         assert!(refused > 100, "{refused} refused with {number}");
     }
@@ -155,18 +156,17 @@ fn random_lists_of_calls() {
 fn at_the_limit_of_extents() {
     let mut tally = Tally::new("returns from 256 extents to fewer");
     let mut random = Random::new(173);
-    for _ in 0..6 {
+    for fewer in [1, 2, 100, 253, 254, 255] {
         let extents = made::extents(&mut random, MAX_EXTENTS + 2);
         let (known, others) = extents.split_at(MAX_EXTENTS);
         let (another, more) = (Read(others[0]), Read(others[1]));
-        let fewer = 1 + random.below(255);
         let mut run = Run::new(MAX_NAMES);
         carry_out(&mut tally, &mut run, &reads(&known[..fewer]));
         run.call(&mut tally, Name(1)).expect("a naming");
         carry_out(&mut tally, &mut run, &reads(&known[fewer..]));
         let full = Err(refusal::EXTENTS);
         let list = [Name(2), another, Return(1), another, Name(3), Return(2), another, Read(known[0]), Return(3), more];
-        let (first, last) = (cold(fewer as u32 + 1), if fewer == 255 { full } else { cold(fewer as u32 + 2) });
+        let (first, last) = (cold(fewer + 1), if fewer == 255 { full } else { cold(fewer + 2) });
         let wanted = [DONE, full, DONE, first, DONE, DONE, full, Ok(256), DONE, last];
         answered(&mut tally, &mut run, &list, &wanted);
         compare_log(&mut tally, &run);
@@ -174,33 +174,19 @@ fn at_the_limit_of_extents() {
     tally.at_least(3000);
 }
 
-/// Compares calls on a session and names that are words alone; their refusals.
+/// Compares calls on a session and names by their words; the refusals.
 fn compare_words(tally: &mut Tally, session: &[u32], names: &[u32], list: &[Call]) -> Vec<Option<i64>> {
-    let (mut session, mut names) = (session.to_vec(), names.to_vec());
-    let (mut wanted_session, mut wanted_names) = (session.clone(), names.clone());
-    let mut call = |call: &Call| {
-        let refused = match *call {
-            Read(extent) => {
-                let got = calls::session_read(&mut session, extent);
-                tally.same(got, session::read(&mut wanted_session, extent), call);
-                got.err()
-            }
-            Name(name) => {
-                let got = calls::session_name(&session, &mut names, name);
-                tally.same(got, names::name(&wanted_session, &mut wanted_names, name), call);
-                got.err()
-            }
-            Return(name) => {
-                let got = calls::session_return(&mut session, &names, name);
-                tally.same(got, names::return_to(&mut wanted_session, &wanted_names, name), call);
-                got.err()
-            }
-        };
-        tally.same(&session, &wanted_session, call);
-        tally.same(&names, &wanted_names, call);
-        refused
-    };
-    list.iter().map(&mut call).collect()
+    let (mut got, mut wanted) = ([session.to_vec(), names.to_vec()], [session.to_vec(), names.to_vec()]);
+    let mut refused = Vec::new();
+    for call in list {
+        let [session, names] = &mut got;
+        let answer = runs::call(session, names, *call);
+        let [session, names] = &mut wanted;
+        tally.same(answer, names::answer(session, names, *call), call);
+        tally.same(&got, &wanted, call);
+        refused.push(answer.err());
+    }
+    refused
 }
 
 #[test]
@@ -223,7 +209,7 @@ fn at_the_limit_of_reads() {
         let got = compare_words(&mut tally, &words, &names::new(), &list);
         tally.same(&got[..], &wanted, &count);
     }
-    tally.at_least(5 * 60);
+    tally.at_least(5 * 40);
 }
 
 #[test]
@@ -238,7 +224,7 @@ fn sessions_that_no_trace_has() {
         let list = runs::list(&mut random, &extents, 40, 4);
         compare_words(&mut tally, &other, &words, &list);
     }
-    tally.at_least(60 * 40 * 3);
+    tally.at_least(60 * 40 * 2);
 }
 
 #[test]
@@ -261,7 +247,7 @@ fn where_the_marks_move() {
         }
         compare_log(&mut tally, &run);
     }
-    tally.at_least(9000);
+    tally.at_least(8000);
 }
 
 #[test]
@@ -273,11 +259,11 @@ fn sessions_with_the_same_names() {
         let mut names = calls::names_new(names::WORDS).expect("new names");
         let sessions = [session::of(&one), session::of(&other)];
         for (session, name) in [(&sessions[0], 2), (&sessions[1], 7)] {
-            tally.same(calls::session_name(session, &mut names, name), DONE, &name);
+            tally.same(calls::session_name(session, &mut names, name), Ok(0), &name);
         }
         let [mut first, mut second] = sessions.clone();
-        tally.same(calls::session_return(&mut first, &names, 7), DONE, &other);
-        tally.same(calls::session_return(&mut second, &names, 2), DONE, &one);
+        tally.same(calls::session_return(&mut first, &names, 7), Ok(0), &other);
+        tally.same(calls::session_return(&mut second, &names, 2), Ok(0), &one);
         tally.same([second, first], sessions, &(one, other));
     }
     tally.at_least(60);

@@ -95,9 +95,9 @@ fn moments() {
     assert_eq!(with_little_stack(|| ffi::session_return(&mut words, &names, 8)), Err(refusal::NAME));
     assert_eq!(with_little_stack(|| ffi::session_name(&words, &mut names, 8)), Ok(0));
     assert_eq!(with_little_stack(|| ffi::session_return(&mut words, &names, 8)), Ok(0));
-    names[names::WORDS - 1] ^= 1;
+    names[names::WORDS - 1] += 1 << 10;
     assert_eq!(with_little_stack(|| ffi::session_return(&mut words, &names, 8)), Err(refusal::STATE));
-    words[session::NEXT] ^= 1;
+    words[session::NEXT] += 1 << 10;
     assert_eq!(with_little_stack(|| ffi::session_name(&words, &mut names, 8)), Err(refusal::STATE));
 }
 

@@ -24,6 +24,7 @@ use Rattle.listing_memory.specs.Calls.{listBy, listCall}
 use Rattle.session_layout.specs.Layout.{sessionLength, sessionIn}
 use Rattle.session_words.specs.Calls.{newSession, summaryIn}
 use Rattle.watch_words.specs.Calls.{newWatch}
+use Rattle.moments.specs.Names.{newNames}
 use Rattle.capi_answers.specs.Answers.{mostSigned, Small}
 
 -- by a test of what has an answer: small where it holds, and small where it does not
@@ -124,6 +125,11 @@ module _ (buffer : List ℕ) (room : length buffer ≤ mostSigned) where
   pub small-watch : (size : ℕ) → Small (newWatch size buffer .answer)
   unfolding newWatch
   small-watch size = small-wrote _
+
+  -- words in which no name is set
+  pub small-names : Small (newNames buffer .answer)
+  unfolding newNames
+  small-names = small-wrote _
 
   -- the summary of a session in words
   pub small-summary : (w : List ℕ) → Small (summaryIn w buffer .answer)

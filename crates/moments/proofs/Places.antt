@@ -193,7 +193,7 @@ new-unset names room k =
     by-test (isName k)
     (λ is. rw (le-leb (length (replicate {A = ℕ} namesLength 0)) (length names) (omega (arith, long)))
     (unset-word (replicate namesLength 0 ++ drop (length (replicate {A = ℕ} namesLength 0)) names) k
-    (List·getD-append (replicate namesLength 0) _ 0 (placeStart k) (omega (arith, long, place-within k is)) ∙ getD-blank-row namesLength (placeStart k))))
+    (List·getD-append (replicate namesLength 0) (drop (length (replicate {A = ℕ} namesLength 0)) names) 0 (placeStart k) (omega (arith, long, place-within k is)) ∙ getD-blank-row namesLength (placeStart k))))
     (λ e. set-no-name _ k e)
   where
     long : length (replicate {A = ℕ} namesLength 0) ≡ namesLength

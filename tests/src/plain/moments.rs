@@ -1,17 +1,11 @@
 //! Named moments by logs alone: the log now, and the log under each name.
 
-use super::names::MAX_NAMES;
+use super::last_slots::LastSlots;
+use super::names::{is_name, Call};
+use super::session::Reading;
 use super::{trace, MAX_EXTENTS, MAX_READS};
 use crate::{refusal, Answer};
 use std::collections::HashMap;
-
-/// A call: a read of an extent, a naming, or a return.
-#[derive(Clone, Copy, PartialEq, Eq, Debug)]
-pub enum Call {
-    Read(u32),
-    Name(u32),
-    Return(u32),
-}
 
 /// The log now, the logs under the names that are set, and how many names there is room for.
 pub struct Moments {
@@ -26,33 +20,33 @@ impl Moments {
         Moments { log: Vec::new(), named: HashMap::new(), room }
     }
 
-    /// One more call: the word of a read, or 0; a refused call changes nothing.
-    pub fn answer(&mut self, call: Call) -> Answer<u64> {
+    /// One more call: what a read answers. A refused call changes nothing.
+    pub fn answer(&mut self, call: Call) -> Answer<Option<Reading>> {
         match call {
-            Call::Read(extent) => self.read(extent),
-            Call::Name(name) | Call::Return(name) if !(1..=MAX_NAMES).contains(&name) => Err(refusal::NUMBER),
-            Call::Name(name) if name > self.room => Err(refusal::ROOM),
-            Call::Name(name) => {
-                self.named.insert(name, self.log.clone());
-                Ok(0)
-            }
-            Call::Return(name) => {
-                self.log = self.named.get(&name).ok_or(refusal::NAME)?.clone();
-                Ok(0)
-            }
+            Call::Read(extent) => return self.read(extent).map(Some),
+            Call::Name(name) | Call::Return(name) if !is_name(name) => return Err(refusal::NUMBER),
+            Call::Name(name) if name > self.room => return Err(refusal::ROOM),
+            Call::Name(name) => _ = self.named.insert(name, self.log.clone()),
+            Call::Return(name) => self.log = self.named.get(&name).ok_or(refusal::NAME)?.clone(),
         }
+        Ok(None)
     }
 
     /// A read that is accepted is appended to the log.
-    fn read(&mut self, extent: u32) -> Answer<u64> {
+    fn read(&mut self, extent: u32) -> Answer<Reading> {
         if self.log.len() as u64 + 1 > MAX_READS {
             return Err(refusal::READS);
         }
         if !self.log.contains(&extent) && trace::different(&self.log) + 1 > MAX_EXTENTS {
             return Err(refusal::EXTENTS);
         }
-        let word = trace::word_after(&self.log, extent);
+        let word = trace::word_after(&self.log, extent) as usize;
+        let mut last = LastSlots::default();
+        for before in &self.log {
+            last.read(*before);
+        }
+        let (sums_read, slots_looked) = last.read(extent);
         self.log.push(extent);
-        Ok(u64::from(word))
+        Ok(Reading { word, sums_read, slots_looked })
     }
 }

@@ -1,6 +1,6 @@
 //! Names as words, a place for each, and the calls on any such words.
 
-use super::session;
+use super::session::{self, Reading};
 use crate::{refusal, Answer};
 use std::ops::Range;
 
@@ -10,6 +10,14 @@ pub const MAX_NAMES: u32 = 8;
 pub const NAME_WORDS: usize = 1 + session::WORDS;
 /// The words of all names.
 pub const WORDS: usize = MAX_NAMES as usize * NAME_WORDS;
+
+/// A call on a session with names: a read of an extent, a naming, or a return.
+#[derive(Clone, Copy, PartialEq, Eq, Debug)]
+pub enum Call {
+    Read(u32),
+    Name(u32),
+    Return(u32),
+}
 
 /// Names of which none is set.
 pub fn new() -> Vec<u32> {
@@ -22,18 +30,16 @@ pub fn place(name: u32) -> Range<usize> {
     end - NAME_WORDS..end
 }
 
-/// Refuses what is no name.
-fn named(name: u32) -> Answer<()> {
-    if (1..=MAX_NAMES).contains(&name) {
-        Ok(())
-    } else {
-        Err(refusal::NUMBER)
-    }
+/// Whether a number is a name.
+pub fn is_name(number: u32) -> bool {
+    (1..=MAX_NAMES).contains(&number)
 }
 
 /// The call for a naming; a refusal leaves the names as they were.
 pub fn name(session: &[u32], names: &mut [u32], name: u32) -> Answer<u64> {
-    named(name)?;
+    if !is_name(name) {
+        return Err(refusal::NUMBER);
+    }
     if !session::sound(session) {
         return Err(refusal::STATE);
     }
@@ -45,11 +51,22 @@ pub fn name(session: &[u32], names: &mut [u32], name: u32) -> Answer<u64> {
 
 /// The call for a return; a refusal leaves the session as it was.
 pub fn return_to(session: &mut [u32], names: &[u32], name: u32) -> Answer<u64> {
-    named(name)?;
+    if !is_name(name) {
+        return Err(refusal::NUMBER);
+    }
     let words = names.get(place(name)).filter(|words| words[0] != 0).ok_or(refusal::NAME)?;
     if !session::sound(&words[1..]) {
         return Err(refusal::STATE);
     }
     session.get_mut(..session::WORDS).ok_or(refusal::ROOM)?.copy_from_slice(&words[1..]);
     Ok(0)
+}
+
+/// Any of the calls; what a read answers.
+pub fn answer(session: &mut [u32], names: &mut [u32], call: Call) -> Answer<Option<Reading>> {
+    match call {
+        Call::Read(extent) => session::read(session, extent).map(Some),
+        Call::Name(number) => name(session, names, number).map(|_| None),
+        Call::Return(number) => return_to(session, names, number).map(|_| None),
+    }
 }
