@@ -30,7 +30,7 @@ use Rattle.watch_words.proofs.Kept.{new-watch-all}
 use Rattle.watch_words.proofs.Fed.{fed-words}
 use Rattle.whole.specs.Runs.{gives, refused, sessionAfter, answersOf, written}
 use Rattle.whole.specs.Counts.{watching, cacheShare, Counts}
-use Rattle.whole.specs.Claim.{Seen, seenOf}
+use Rattle.whole.specs.Owed.{Seen, seenOf}
 use Rattle.whole.proofs.Calls.{trace-stands, uncut, uncut-words}
 
 -- a watch after what was seen

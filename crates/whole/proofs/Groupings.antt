@@ -14,23 +14,30 @@ use Rattle.reuse.proofs.Traces.{within-front, within-back}
 use Rattle.summary_calls.specs.Calls.{wrote}
 use Rattle.summary_calls.proofs.Traces.{join-trace}
 use Rattle.session.specs.declared.Session.{Session}
-use Rattle.session.specs.Sessions.{fresh}
 use Rattle.session_summary.specs.Summaries.{summaryCall}
-use Rattle.session_traces.proofs.Stands.{Stands, fresh-stands}
+use Rattle.session_traces.proofs.Stands.{Stands}
 use Rattle.session_summary.proofs.Summaries.{summary-trace}
-use Rattle.whole.specs.Runs.{sessionAfter, accepted, gives, refused, outcome, Grouping, part, joined, parts, logOf, joinedWith, grouped, roomFor, roomy}
-use Rattle.whole.proofs.Calls.{calls-stand}
+use Rattle.whole.specs.Runs.{gives, refused, outcome, roomFor}
+use Rattle.whole.specs.Moments.{stateAfter, begun}
+use Rattle.whole.specs.Groupings.{Part, partLog, AllUnset, Grouping, part, joined, parts, logOf, joinedWith, grouped, roomy}
+use Rattle.whole.proofs.Moments.{run-reads}
 
 -- the log of some parts and then others
-pub log-append : (p q : List (List ℕ)) → logOf (p ++ q) ≡ logOf p ++ logOf q
+pub log-append : (p q : List Part) → logOf (p ++ q) ≡ logOf p ++ logOf q
 unfolding logOf
 log-append [] q = refl
-log-append (calls ∷ p) q = rw (log-append p q) (sym (append-assoc (accepted fresh calls) (logOf p) (logOf q)))
+log-append (a ∷ p) q = rw (log-append p q) (sym (append-assoc (partLog a) (logOf p) (logOf q)))
 
 -- the log of one part
-pub log-one : (calls : List ℕ) → logOf (calls ∷ []) ≡ accepted fresh calls
+pub log-one : (p : Part) → logOf (p ∷ []) ≡ partLog p
 unfolding logOf
-log-one calls = append-nil (accepted fresh calls)
+log-one p = append-nil (partLog p)
+
+-- some parts and then others begin with no name set
+unset-both : (p q : List Part) → AllUnset (p ++ q) → AllUnset p × AllUnset q
+unfolding AllUnset
+unset-both [] q u = (tt, u)
+unset-both (a ∷ p) q u = let r = unset-both p q (u .1) in ((u .0, r .0), r .1)
 
 -- what is handed over after words are written, or 6
 pub outcome-wrote : (w buffer : List ℕ) → outcome (wrote w buffer) ≡ cond (leb (length w) (length buffer)) (gives w) (refused 6)
@@ -51,13 +58,18 @@ pub session-outcome : (s : Session) (t buffer : List ℕ) → Stands s t → out
 session-outcome s t buffer g = ap outcome (summary-trace s t buffer g) ∙ outcome-summary t buffer
 
 -- a grouping hands over its log's summary; a call of it is refused with 6 alone
-pub grouping-outcome : (g : Grouping) → Within (logOf (parts g)) → grouped g ≡ cond (roomy g) (gives (summaryOf (logOf (parts g)))) (refused 6)
-unfolding grouped parts roomy
-grouping-outcome (part calls buffer) w =
-    session-outcome (sessionAfter fresh calls) (accepted fresh calls) buffer (calls-stand calls fresh [] fresh-stands)
-    ∙ rw (log-one calls)
-grouping-outcome (joined g h buffer) w = by (roomy g) (roomy h) (grouping-outcome g front) (grouping-outcome h back)
+pub grouping-outcome : (g : Grouping) → AllUnset (parts g) → Within (logOf (parts g)) → grouped g ≡ cond (roomy g) (gives (summaryOf (logOf (parts g)))) (refused 6)
+unfolding grouped parts roomy AllUnset
+grouping-outcome (part p buffer) u w =
+    session-outcome (stateAfter (begun (p .names)) (p .calls) .session) (partLog p) buffer (run-reads (p .names) (u .0) (p .calls) .stands)
+    ∙ rw (log-one p)
+grouping-outcome (joined g h buffer) u w =
+    by (roomy g) (roomy h) (grouping-outcome g (each .0) front) (grouping-outcome h (each .1) back)
   where
+    -- the parts of each begin with no name set
+    each : AllUnset (parts g) × AllUnset (parts h)
+    each = unset-both (parts g) (parts h) u
+
     -- the two logs end to end
     ends : logOf (parts g ++ parts h) ≡ logOf (parts g) ++ logOf (parts h)
     ends = log-append (parts g) (parts h)

@@ -1,5 +1,7 @@
 pub mod Calls
-pub mod Refusals
+pub mod Moments
+pub mod Remembered
+pub mod NamedMoments
 pub mod Groupings
 pub mod Plans
 pub mod Prefixes

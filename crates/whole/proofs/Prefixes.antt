@@ -21,10 +21,10 @@ use Rattle.reuse.proofs.Monoid.{empty-summary}
 use Rattle.reuse.proofs.Formed.{summary-well-formed}
 use Rattle.reuse.proofs.Traces.{within-front}
 use Rattle.summary_calls.specs.Calls.{wrote}
-use Rattle.session.specs.Sessions.{fresh}
 use Rattle.reuse.specs.Written.{wordOf}
 use Rattle.after.specs.Calls.{afterCall}
-use Rattle.whole.specs.Runs.{accepted, gives, refused, outcome, Grouping, parts, logOf, grouped, roomy}
+use Rattle.whole.specs.Runs.{gives, refused, outcome}
+use Rattle.whole.specs.Groupings.{partLog, AllUnset, Grouping, parts, logOf, grouped, roomy}
 use Rattle.whole.specs.Cuttings.{Cutting, only, andThen, cutParts, Follows, after, endToEnd, cutDistances, cutRoomy}
 use Rattle.whole.proofs.Groupings.{log-append, log-one, outcome-wrote, grouping-outcome}
 
@@ -78,10 +78,10 @@ unfolding reuses
 first-outcome t buffer w = rw (← empty-summary) (after-outcome [] t buffer w ∙ rw (words-law [] t))
 
 -- a part after a grouping of all the parts before it
-pub later-outcome : (g : Grouping) (b buffer : List ℕ) → Within (logOf (parts g) ++ b)
+pub later-outcome : (g : Grouping) → AllUnset (parts g) → (b buffer : List ℕ) → Within (logOf (parts g) ++ b)
     → after (grouped g) b buffer
     ≡ cond (roomy g && leb (length b) (length buffer)) (gives (map wordOf (reuses (recentOf (summaryOf (logOf (parts g)))) b))) (refused 6)
-later-outcome g b buffer w = rw (grouping-outcome g (within-front (logOf (parts g)) b w)) (by (roomy g))
+later-outcome g u b buffer w = rw (grouping-outcome g u (within-front (logOf (parts g)) b w)) (by (roomy g))
   where
     -- by the room of the grouping
     by : (c : Bool)
@@ -94,8 +94,8 @@ later-outcome g b buffer w = rw (grouping-outcome g (within-front (logOf (parts 
 pub cutting-outcome : (c : Cutting) → Follows c → Within (logOf (cutParts c))
     → cutDistances c ≡ cond (cutRoomy c) (gives (map wordOf (reuses [] (logOf (cutParts c))))) (refused 6)
 unfolding cutDistances cutRoomy cutParts Follows
-cutting-outcome (only calls buffer) p w = rw (log-one calls) (first-outcome (accepted fresh calls) buffer (rw (log-one calls) at w))
-cutting-outcome (andThen c g calls buffer) p w = by (cutRoomy c) (roomy g) (leb (length b) (length buffer)) (cutting-outcome c (p .0) front) later
+cutting-outcome (only q buffer) p w = rw (log-one q) (first-outcome (partLog q) buffer (rw (log-one q) at w))
+cutting-outcome (andThen c g q buffer) p w = by (cutRoomy c) (roomy g) (leb (length b) (length buffer)) (cutting-outcome c (p .0) front) later
   where
     -- the log of the earlier parts
     a : List ℕ
@@ -103,11 +103,11 @@ cutting-outcome (andThen c g calls buffer) p w = by (cutRoomy c) (roomy g) (leb 
 
     -- the part
     b : List ℕ
-    b = accepted fresh calls
+    b = partLog q
 
     -- the two end to end
-    ends : logOf (cutParts c ++ (calls ∷ [])) ≡ a ++ b
-    ends = log-append (cutParts c) (calls ∷ []) ∙ ap (λ (l : List ℕ). a ++ l) (log-one calls)
+    ends : logOf (cutParts c ++ (q ∷ [])) ≡ a ++ b
+    ends = log-append (cutParts c) (q ∷ []) ∙ ap (λ (l : List ℕ). a ++ l) (log-one q)
 
     -- they are within the limits
     both : Within (a ++ b)
@@ -119,14 +119,14 @@ cutting-outcome (andThen c g calls buffer) p w = by (cutRoomy c) (roomy g) (leb 
 
     -- the part after its prefix
     later : after (grouped g) b buffer ≡ cond (roomy g && leb (length b) (length buffer)) (gives (map wordOf (reuses (recentOf (summaryOf a)) b))) (refused 6)
-    later = rw (p .1) at (later-outcome g b buffer (rw (p .1) both))
+    later = rw (p .2) at (later-outcome g (p .1) b buffer (rw (p .2) both))
 
     -- by the room of each
     by : (d e f : Bool)
         → cutDistances c ≡ cond d (gives (map wordOf (reuses [] a))) (refused 6)
         → after (grouped g) b buffer ≡ cond (e && f) (gives (map wordOf (reuses (recentOf (summaryOf a)) b))) (refused 6)
         → endToEnd (cutDistances c) (after (grouped g) b buffer)
-        ≡ cond (d && (e && f)) (gives (map wordOf (reuses [] (logOf (cutParts c ++ (calls ∷ [])))))) (refused 6)
+        ≡ cond (d && (e && f)) (gives (map wordOf (reuses [] (logOf (cutParts c ++ (q ∷ [])))))) (refused 6)
     by true true true h k = rw (h, k, ends) (ap gives (words-law a b))
     by true true false h k = rw (h, k)
     by true false f h k = rw (h, k)

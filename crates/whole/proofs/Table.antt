@@ -29,7 +29,9 @@ use Rattle.session_soundness.specs.Soundness.{soundRows}
 use Rattle.session.specs.Sessions.{marks, extents, stackOf, firstRow, sound}
 use Rattle.session.specs.Reads.{gathered, roomed, slotOf, lookedAt, moved, entered, taken, tooMany, readOf}
 use Rattle.session_summary.specs.Summaries.{sessionWords, summaryCall}
-use Rattle.whole.specs.Runs.{sessionAfter, answersOf, grouped}
+use Rattle.whole.specs.Runs.{sessionAfter, answersOf}
+use Rattle.whole.specs.Moments.{stateAfter}
+use Rattle.whole.specs.Groupings.{grouped}
 use Rattle.whole.specs.Looks.{lookedAlong}
 use Rattle.whole.specs.Counts.{cacheShare}
 use Rattle.whole.specs.Table.{HitSharesAre, five, seven, oddWords, Table}
@@ -70,7 +72,7 @@ three-quarters = refl
 
 -- the rows of the calls and those of the definitions compute; the shares of the session and the watch are the log's
 pub table : Table
-unfolding distances distance since afterCall answersOf sessionAfter grouped summaryCall sessionWords wrote joinCall missesCall shareCall shareOf wellFormed words summaryOf histogram joinOf joinedFirst joinedRecent joinedCounts joinedCount countFor shared across hitsOf missesOf servableOf readsOf extentsOf firstOf recentOf countsOf mem allIn distinct remove inside outside before firsts cleanup from sum count countAt reuses touch cacheMisses cacheHits hitCount servable hits admit evict oldest lastRead readOf sound soundRows extents firstRow same blank marks sumsOf pairs tidy stackOf marked roomed gathered slotOf slotFrom taken tooMany depth moved entered zeros lookedAlong lookedAt lookedBelow
+unfolding distances distance since afterCall answersOf sessionAfter stateAfter grouped summaryCall sessionWords wrote joinCall missesCall shareCall shareOf wellFormed words summaryOf histogram joinOf joinedFirst joinedRecent joinedCounts joinedCount countFor shared across hitsOf missesOf servableOf readsOf extentsOf firstOf recentOf countsOf mem allIn distinct remove inside outside before firsts cleanup from sum count countAt reuses touch cacheMisses cacheHits hitCount servable hits admit evict oldest lastRead readOf sound soundRows extents firstRow same blank marks sumsOf pairs tidy stackOf marked roomed gathered slotOf slotFrom taken tooMany depth moved entered zeros lookedAlong lookedAt lookedBelow
 table = record {
   reads-called = refl;
   sums-called = refl;

@@ -17,11 +17,14 @@ use Rattle.session.specs.Sessions.{fresh}
 use Rattle.session_traces.proofs.Stands.{fresh-stands}
 use Rattle.session_traces.proofs.Read.{walks}
 use Rattle.session_traces.proofs.Looks.{looks}
-use Rattle.whole.specs.Runs.{answersOf, written, sessionAfter, gives, refused, Grouping, parts, logOf, grouped, roomy}
+use Rattle.whole.specs.Runs.{answersOf, written, sessionAfter, gives, refused}
+use Rattle.whole.specs.Groupings.{AllUnset, Grouping, parts, logOf, grouped, roomy}
 use Rattle.whole.specs.Cuttings.{Cutting, cutParts, Follows, cutDistances, cutRoomy}
-use Rattle.whole.specs.Claim.{Seen, seenOf, heldBy, Claims, Claim}
-use Rattle.whole.proofs.Calls.{all-accepted, trace-stands, uncut, uncut-words}
-use Rattle.whole.proofs.Refusals.{calls-owed, no-trace}
+use Rattle.whole.specs.Owed.{Seen, seenOf}
+use Rattle.whole.specs.Claim.{heldBy, Claims, Claim}
+use Rattle.whole.proofs.Calls.{calls-owed, no-trace, all-accepted, trace-stands, uncut, uncut-words}
+use Rattle.moments.proofs.Places.{new-unset}
+use Rattle.whole.proofs.NamedMoments.{remembers, comes-back, reads-alone}
 use Rattle.whole.proofs.Groupings.{session-outcome, grouping-outcome}
 use Rattle.whole.proofs.Plans.{plan-outcome}
 use Rattle.whole.proofs.Prefixes.{cutting-outcome}
@@ -57,8 +60,8 @@ caches t w size =
     ∙ held-answers size (answersOf fresh t)
 
 -- every grouping of every cutting of t
-pub groupings : (t : List ℕ) → Within t → (g : Grouping) → logOf (parts g) ≡ t → grouped g ≡ cond (roomy g) (gives (summaryOf t)) (refused 6)
-groupings t w g e = rw e at (grouping-outcome g (rw e w))
+pub groupings : (t : List ℕ) → Within t → (g : Grouping) → AllUnset (parts g) → logOf (parts g) ≡ t → grouped g ≡ cond (roomy g) (gives (summaryOf t)) (refused 6)
+groupings t w g u e = rw e at (grouping-outcome g u (rw e w))
 
 -- every cutting of t with its distances
 pub distances : (t : List ℕ) → Within t → (c : Cutting) → Follows c → logOf (cutParts c) ≡ t
@@ -89,6 +92,10 @@ pub claim : Claim
 claim = record {
   calls = calls-owed;
   no-trace = no-trace;
+  moments = remembers;
+  returns = comes-back;
+  reads-alone = reads-alone;
+  new-names = new-unset;
   walks = walks;
   looks = looks;
   runs = runs;

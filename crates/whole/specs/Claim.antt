@@ -3,11 +3,10 @@ use Prim.Native.Nat.{ℕ, _≤_}
 use mathlib.Core.Path.{_≡_}
 use mathlib.Core.List.{List, [], _∷_, _++_, map}
 use mathlib.Core.Bool.{Bool, true, false, cond, _&&_}
-use lib.Dec.{leb, ltb}
+use lib.Dec.{leb}
 use lib.ListN.{length}
-use Rattle.reuse.specs.Limits.{maxReads, maxExtents}
 use Rattle.reuse.specs.Lists.{firsts, from}
-use Rattle.reuse.specs.Lru.{Reuse, cold, at, reuses, newcomers, distance, within}
+use Rattle.reuse.specs.Lru.{cold, at, reuses, newcomers, within}
 use Rattle.reuse.specs.Cache.{cacheHits}
 use Rattle.reuse.specs.Summary.{summaryOf, wellFormed}
 use Rattle.reuse.specs.Traces.{Within}
@@ -25,7 +24,13 @@ use Rattle.texts.specs.Lines.{got}
 use Rattle.texts.specs.Plans.{Plan, reads as planReads}
 use Rattle.texts.specs.PlanTexts.{planOf}
 use Rattle.plan_calls.specs.Calls.{workWords, runCall}
-use Rattle.whole.specs.Runs.{planned, sessionAfter, answersOf, written, accepted, Reply, gives, refused, outcome, Grouping, parts, logOf, grouped, roomFor, roomy}
+use Rattle.moments.specs.Names.{namesLength, isName, lies, newNames}
+use Rattle.whole.specs.Runs.{planned, sessionAfter, answersOf, written, accepted, gives, refused, outcome, roomFor}
+use Rattle.whole.specs.Owed.{seenOf, owed}
+use Rattle.whole.specs.Moments.{Call, Unset}
+use Rattle.whole.specs.Remembered.{spares}
+use Rattle.whole.specs.NamedMoments.{Remembers, ComesBack, ReadsAlone}
+use Rattle.whole.specs.Groupings.{AllUnset, Grouping, parts, logOf, grouped, roomy}
 use Rattle.split_calls.specs.Refusals.{Refusals}
 use Rattle.whole.specs.Newcomers.{Newcomers}
 use Rattle.whole.specs.Looks.{lookedAlong, Looked}
@@ -33,27 +38,6 @@ use Rattle.whole.specs.Counts.{Counts}
 use Rattle.whole.specs.HitShares.{Serves, HitShares, AnyHitShares}
 use Rattle.whole.specs.Splits.{Customers, Splits}
 use Rattle.whole.specs.Cuttings.{Cutting, cutParts, Follows, cutDistances, cutRoomy}
-
--- a read's answer without its counts of sums and slots: cold with its number, a distance, or its refusal
-abbrev pub Seen : Type 0
-Seen = Reply Reuse
-
--- of an answer
-abbrev pub seenOf : Answer → Seen
-seenOf (Cold n k) = gives (cold n)
-seenOf (Distance d n k) = gives (at d)
-seenOf (Refused n) = refused n
-
--- what each of a list of read calls must answer, t being the reads accepted before: 8 where more reads than the
--- limit would result, else 9 where more extents would, else the distance or the newcomer's number counted on the log
-unfoldable pub owed : List ℕ → List ℕ → List Seen
-owed t [] = []
-owed t (x ∷ xs) =
-    cond (ltb maxReads (length (t ++ (x ∷ []))))
-    (refused 8 ∷ owed t xs)
-    (cond (ltb maxExtents (length (firsts (t ++ (x ∷ [])))))
-    (refused 9 ∷ owed t xs)
-    (gives (distance t x) ∷ owed (t ++ (x ∷ [])) xs))
 
 -- an answer that is a distance of at most c
 abbrev pub heldBy : ℕ → Answer → Bool
@@ -76,8 +60,9 @@ pub record Claims (t : List ℕ) : Type 0 where
   -- its summary is the log's
   pub uncut-summary : (buffer : List ℕ) →
       outcome (summaryCall (sessionAfter fresh t) buffer) ≡ cond (roomFor t buffer) (gives (summaryOf t)) (refused 6)
-  -- every grouping of every cutting hands over the same words; a call is refused with 6 alone, where its buffer is too short
-  pub groupings : (g : Grouping) → logOf (parts g) ≡ t →
+  -- every grouping of every cutting, each part from a new session with no name set, hands over the same words; a call is
+  -- refused with 6 alone, where its buffer is too short
+  pub groupings : (g : Grouping) → AllUnset (parts g) → logOf (parts g) ≡ t →
       grouped g ≡ cond (roomy g) (gives (summaryOf t)) (refused 6)
   -- an accepted plan is a grouping too: its call hands over the same words, or is refused with 6 alone
   pub plans : (text : List ℕ) (p : Plan) → planOf text ≡ got p → planReads p ≡ length t → (work out : List ℕ) →
@@ -92,12 +77,21 @@ pub record Claims (t : List ℕ) : Type 0 where
   -- for every size the share is 'no reads' exactly if no extent is read twice, else between 0 and 1, and 1 at a size of at least v
   pub hit-shares : (c : ℕ) → HitShares c t
 
--- of every list of read calls and every log within the limits
+-- of every list of calls and every log within the limits
 pub record Claim : Type 0 where
   -- a read is refused exactly under the condition of 8, or else of 9, counted with the reads accepted before it
   pub calls : (reads : List ℕ) → map seenOf (answersOf fresh reads) ≡ owed [] reads
   -- a refused read leaves no trace
   pub no-trace : (reads : List ℕ) → sessionAfter fresh reads ≡ sessionAfter fresh (accepted fresh reads)
+  -- reads, namings and returns in any order, from a new session with no name set, answer and leave what the remembered logs say
+  pub moments : (names : List ℕ) → Unset names → (calls : List Call) → Remembers names calls
+  -- after a return answers are those of the log as it stood at naming, followed by what came after the return
+  pub returns : (names : List ℕ) → Unset names → (before : List Call) (k : ℕ) → isName k ≡ true → lies (length names) k ≡ true →
+      (between : List Call) → spares k between ≡ true → (reads : List ℕ) → ComesBack names before k between reads
+  -- reads alone are a case
+  pub reads-alone : (names reads : List ℕ) → ReadsAlone names reads
+  -- new words for names have none set
+  pub new-names : (names : List ℕ) → namesLength ≤ length names → Unset (newNames names .buffer)
   -- the distance of an accepted read of a known extent is 1 plus the total of the sums on the way up from its slot, and the
   -- sums read are how many these are: of every sound session
   pub walks : Walks

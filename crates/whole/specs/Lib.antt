@@ -1,4 +1,9 @@
 pub mod Runs
+pub mod Owed
+pub mod Moments
+pub mod Remembered
+pub mod NamedMoments
+pub mod Groupings
 pub mod Cuttings
 pub mod Newcomers
 pub mod Looks

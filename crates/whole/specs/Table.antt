@@ -21,7 +21,9 @@ use Rattle.session.specs.Sessions.{fresh}
 use Rattle.session.specs.Reads.{sumsRead, slotsLooked}
 use Rattle.session_summary.specs.Summaries.{shareCall as sessionShare}
 use Rattle.watch.specs.Watching.{newOf, shareCall as watchShare}
-use Rattle.whole.specs.Runs.{sessionAfter, answersOf, gives, outcome, Grouping, part, joined, grouped}
+use Rattle.whole.specs.Runs.{sessionAfter, answersOf, gives, outcome}
+use Rattle.whole.specs.Moments.{read}
+use Rattle.whole.specs.Groupings.{Grouping, part, joined, grouped}
 use Rattle.whole.specs.Looks.{lookedAlong}
 use Rattle.whole.specs.Counts.{watching, cacheShare}
 
@@ -69,9 +71,9 @@ pub record HitSharesAre (c : ℕ) (t : List ℕ) (s : HitShare) : Type 0 where
   pub of-session : sessionShare (sessionAfter fresh t) c ≡ Answered s
   pub of-watch : watchShare (watching (newOf c) (answersOf fresh t)) ≡ Answered s
 
--- a part by its reads, its summary in a lent buffer of 20 words
+-- a part by its reads, no words lent for names, its summary in a lent buffer of 20 words
 abbrev pub partOf : List ℕ → Grouping
-partOf reads = part reads (replicate 20 5)
+partOf reads = part (record { calls = map read reads; names = [] }) (replicate 20 5)
 
 -- two parts joined in such a buffer
 abbrev pub bothOf : List ℕ → List ℕ → Grouping
