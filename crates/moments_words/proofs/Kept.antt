@@ -12,7 +12,7 @@ use Rattle.session_soundness.specs.Soundness.{Wide}
 use Rattle.session.specs.declared.Session.{Session}
 use Rattle.session.specs.Sessions.{sound}
 use Rattle.session_layout.specs.Layout.{sessionLength, sessionIn, sessionLaid}
-use Rattle.session_layout.proofs.Laid.{laid-row, laid-read}
+use Rattle.session_layout.proofs.Laid.{laid-row, laid-read, laid-over}
 use Rattle.moments.specs.declared.MomentAnswer.{MomentAnswer}
 use Rattle.moments.specs.declared.MomentAnswer.the-variants.{Done, Refused}
 use Rattle.moments.specs.declared.Returned.{Returned}
@@ -103,3 +103,29 @@ module _ (s : Session) (wide : Wide (s .first) (s .hist) (s .slots) (s .sums)) (
           in-all (putAt w 0 (sessionLaid s)) names k e (omega (arith, l, laid-row s wide w l))
           ∙ ap (λ (t : Session). nameCall t names k) (laid-read s wide w)
       by false e = in-not (putAt w 0 (sessionLaid s)) names k e ∙ sym (name-not s names k e)
+
+  -- and returns as it does by itself
+  pub return-kept : let t = returnCall s names k .session in Wide (t .first) (t .hist) (t .slots) (t .sums)
+      → returnIn (putAt w 0 (sessionLaid s)) names k
+      ≡ record { answer = returnCall s names k .answer; words = putAt w 0 (sessionLaid (returnCall s names k .session)) }
+  unfolding returnIn returnCall
+  return-kept = by (isName k) (isSet names k) (sound (sessionUnder names k))
+    where
+      -- the words that hold the session
+      held : List ℕ
+      held = putAt w 0 (sessionLaid s)
+
+      -- a return by its three tests
+      back : Bool → Bool → Bool → Returned
+      back a b c = cond a (cond b (cond c (record { session = sessionUnder names k; answer = Done }) (notReturned 7 s)) (notReturned 11 s)) (notReturned 2 s)
+
+      by : (a b c : Bool) → Wide (back a b c .session .first) (back a b c .session .hist) (back a b c .session .slots) (back a b c .session .sums)
+          → cond a (cond b (cond c (cameBy Done (sessionUnder names k) held) (notCame 7 held)) (notCame 11 held)) (notCame 2 held)
+          ≡ record { answer = back a b c .answer; words = putAt w 0 (sessionLaid (back a b c .session)) }
+      by true true true v =
+          simp (le-leb sessionLength (length held) (omega (arith, l, laid-row s wide w l)))
+          (ap (λ (r : List ℕ). record { answer = Done; words = r })
+          (laid-over s (sessionUnder names k) wide v w l))
+      by true true false v = refl
+      by true false c v = refl
+      by false b c v = refl

@@ -73,6 +73,13 @@ module _ (w : List ℕ) (at : ℕ) (l : List ℕ) (fits : at + length l ≤ leng
       ∙ drop-drop (n - (at + length l)) (at + length l) w
       ∙ ap (λ (k : ℕ). drop k w) e
 
+  -- words put over them
+  pub put-over : (m : List ℕ) → length m ≡ length l → putAt (putAt w at l) at m ≡ putAt w at m
+  put-over m e = over-is (putAt w at l) ∙ rw (put-before at (omega arith), put-after (at + length m) (omega (arith, e))) (sym (over-is w))
+    where
+      over-is : (o : List ℕ) → putAt o at m ≡ take at o ++ (m ++ drop (at + length m) o)
+      over-is o = unfold putAt in refl
+
 -- a place of words that were put
 pub put-at : (o : List ℕ) (at : ℕ) (l : List ℕ) (j : ℕ) → at + length l ≤ length o → j < length l → getD (putAt o at l) (at + j) 0 ≡ getD l j 0
 put-at o at l j fits h =

@@ -8,7 +8,7 @@ use lib.Seq.{drop-at, take-at, take-all, drop-drop, getD-drop}
 use Rattle.reuse.specs.Limits.{maxExtents, slotCount, sumCount}
 use Rattle.reuse_rows.specs.Rows.{putAt, placed, padded}
 use Rattle.reuse_copies.proofs.Padding.{padded-front, padded-wide}
-use Rattle.reuse_copies.proofs.Puts.{put-cons, put-none, put-length, placed-fits, placed-not}
+use Rattle.reuse_copies.proofs.Puts.{put-cons, put-none, put-length, put-over, placed-fits, placed-not}
 use Rattle.session.specs.declared.Session.{Session}
 use Rattle.session.specs.Sessions.{fresh}
 use Rattle.session_soundness.specs.Soundness.{Wide}
@@ -164,3 +164,9 @@ module _ (s : Session) (wide : Wide (s .first) (s .hist) (s .slots) (s .sums)) w
   -- so are its words alone
   pub read-whole : sessionIn (sessionLaid s) ≡ s
   read-whole = ap sessionIn (sym (append-nil (sessionLaid s))) ∙ read-laid []
+
+-- one session's words over another's
+pub laid-over : (s r : Session) → Wide (s .first) (s .hist) (s .slots) (s .sums) → Wide (r .first) (r .hist) (r .slots) (r .sums)
+    → (w : List ℕ) → sessionLength ≤ length w → putAt (putAt w 0 (sessionLaid s)) 0 (sessionLaid r) ≡ putAt w 0 (sessionLaid r)
+laid-over s r v u w l =
+    put-over w 0 (sessionLaid s) (omega (arith, l, laid-length s v)) (sessionLaid r) (laid-length r u ∙ sym (laid-length s v))

@@ -59,7 +59,7 @@ past-extents t x w =
     rw (m, n) (past maxExtents (length (firsts t)) (w .extents)))
 
 -- a read by what is owed
-abbrev stepFor : Session → ℕ → Seen → Step
+abbrev pub stepFor : Session → ℕ → Seen → Step
 stepFor s x (gives r) = stepAt (roomed s) x r
 stepFor s x (refused n) = readRefused s n
 

@@ -2,6 +2,7 @@ pub mod Calls
 pub mod Moments
 pub mod Remembered
 pub mod NamedMoments
+pub mod InWords
 pub mod Groupings
 pub mod Plans
 pub mod Prefixes

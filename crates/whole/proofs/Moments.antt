@@ -139,7 +139,7 @@ module _ (lent : ℕ) (s : State) (m : Memory) (a : Agrees lent s m) where
   return-left k false e o q = rw (return-not (s .session) (s .names) k e) a
 
   -- a call leaves what is remembered after it
-  left-agrees : (c : Call) → Agrees lent (left s c) (then lent m c)
+  pub left-agrees : (c : Call) → Agrees lent (left s c) (then lent m c)
   left-agrees (read x) = record { present = reads-on (s .session) (m .now) (a .present) x; words = a .words; moments = a .moments }
   left-agrees (name k) = name-left k (isName k) refl (lies lent k) refl
   left-agrees (returnTo k) = return-left k (isName k) refl (m .under k) refl
@@ -158,7 +158,7 @@ after-agrees lent (c ∷ cs) s m a = after-agrees lent cs (left s c) (then lent 
 
 -- from a new session, with words in which no name is set
 module _ (names : List ℕ) (clear : Unset names) where
-  begun-agrees : Agrees (length names) (begun names) nothing
+  pub begun-agrees : Agrees (length names) (begun names) nothing
   begun-agrees = record { present = fresh-read; words = refl; moments = clear }
 
   module _ (calls : List Call) where

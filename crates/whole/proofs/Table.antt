@@ -30,11 +30,16 @@ use Rattle.session.specs.Sessions.{marks, extents, stackOf, firstRow, sound}
 use Rattle.session.specs.Reads.{gathered, roomed, slotOf, lookedAt, moved, entered, taken, tooMany, readOf}
 use Rattle.session_summary.specs.Summaries.{sessionWords, summaryCall}
 use Rattle.whole.specs.Runs.{sessionAfter, answersOf}
+use Rattle.moments.specs.Names.{namesLength, isName, placeStart, lies}
+use Rattle.moments.proofs.Places.{names-lie}
+use Rattle.whole.specs.Owed.{readOwed}
 use Rattle.whole.specs.Moments.{stateAfter}
+use Rattle.whole.specs.Remembered.{nothing, remember, owedBy, remembered}
 use Rattle.whole.specs.Groupings.{grouped}
 use Rattle.whole.specs.Looks.{lookedAlong}
 use Rattle.whole.specs.Counts.{cacheShare}
-use Rattle.whole.specs.Table.{HitSharesAre, five, seven, oddWords, Table}
+use Rattle.whole.specs.Table.{HitSharesAre, five, seven, oddWords, tries, triesTold, again, againTold, Table}
+use Rattle.whole.proofs.Moments.{run-answers}
 use Rattle.whole.proofs.Counts.{counts}
 
 -- a log of two reads, the first of them of 4, and the last too, has one extent
@@ -70,6 +75,30 @@ three-quarters : round binary64 false 3 4 ≡ fin false 3 (negsuc 1)
 unfolding round
 three-quarters = refl
 
+-- the answers of the tries, with room for the place of name 1
+tries-owed : (lent : ℕ) → lies lent 1 ≡ true → owedBy lent nothing tries ≡ triesTold
+unfolding owedBy readOwed isName distance mem since firsts remove
+tries-owed lent e = rw e
+
+-- and where a name is replaced
+again-owed : (lent : ℕ) → lies lent 1 ≡ true → owedBy lent nothing again ≡ againTold
+unfolding owedBy readOwed isName distance mem since firsts remove
+again-owed lent e = rw e
+
+-- the logs that are remembered
+tries-log : remembered namesLength tries ≡ 7 ∷ 3 ∷ 3 ∷ []
+unfolding remembered remember readOwed isName lies placeStart distance mem since firsts remove
+tries-log = refl
+
+again-log : remembered namesLength again ≡ 5 ∷ 6 ∷ 6 ∷ []
+unfolding remembered remember readOwed isName lies placeStart distance mem since firsts remove
+again-log = refl
+
+-- words for all names have room for the place of name 1
+room-for-one : lies namesLength 1 ≡ true
+unfolding isName
+room-for-one = names-lie namesLength (omega arith) 1 refl
+
 -- the rows of the calls and those of the definitions compute; the shares of the session and the watch are the log's
 pub table : Table
 unfolding distances distance since afterCall answersOf sessionAfter stateAfter grouped summaryCall sessionWords wrote joinCall missesCall shareCall shareOf wellFormed words summaryOf histogram joinOf joinedFirst joinedRecent joinedCounts joinedCount countFor shared across hitsOf missesOf servableOf readsOf extentsOf firstOf recentOf countsOf mem allIn distinct remove inside outside before firsts cleanup from sum count countAt reuses touch cacheMisses cacheHits hitCount servable hits admit evict oldest lastRead readOf sound soundRows extents firstRow same blank marks sumsOf pairs tidy stackOf marked roomed gathered slotOf slotFrom taken tooMany depth moved entered zeros lookedAlong lookedAt lookedBelow
@@ -103,4 +132,8 @@ table = record {
   five-defined = λ c. refl;
   seven-share-called = same-shares 2 seven (Share (round binary64 false 3 4)) (short-log seven refl refl) refl refl;
   seven-share-defined = (refl, three-quarters);
+  tries-called = λ names unset fits. run-answers names unset tries ∙ tries-owed (length names) fits;
+  tries-defined = (tries-owed namesLength room-for-one, tries-log);
+  again-called = λ names unset fits. run-answers names unset again ∙ again-owed (length names) fits;
+  again-defined = (again-owed namesLength room-for-one, again-log);
 }

@@ -25,6 +25,7 @@ use Rattle.whole.specs.Claim.{heldBy, Claims, Claim}
 use Rattle.whole.proofs.Calls.{calls-owed, no-trace, all-accepted, trace-stands, uncut, uncut-words}
 use Rattle.moments.proofs.Places.{new-unset}
 use Rattle.whole.proofs.NamedMoments.{remembers, comes-back, reads-alone}
+use Rattle.whole.proofs.InWords.{in-words}
 use Rattle.whole.proofs.Groupings.{session-outcome, grouping-outcome}
 use Rattle.whole.proofs.Plans.{plan-outcome}
 use Rattle.whole.proofs.Prefixes.{cutting-outcome}
@@ -94,6 +95,7 @@ claim = record {
   no-trace = no-trace;
   moments = remembers;
   returns = comes-back;
+  in-words = in-words;
   reads-alone = reads-alone;
   new-names = new-unset;
   walks = walks;

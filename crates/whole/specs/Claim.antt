@@ -24,11 +24,13 @@ use Rattle.texts.specs.Lines.{got}
 use Rattle.texts.specs.Plans.{Plan, reads as planReads}
 use Rattle.texts.specs.PlanTexts.{planOf}
 use Rattle.plan_calls.specs.Calls.{workWords, runCall}
+use Rattle.session_layout.specs.Layout.{sessionLength}
 use Rattle.moments.specs.Names.{namesLength, isName, lies, newNames}
 use Rattle.whole.specs.Runs.{planned, sessionAfter, answersOf, written, accepted, gives, refused, outcome, roomFor}
 use Rattle.whole.specs.Owed.{seenOf, owed}
 use Rattle.whole.specs.Moments.{Call, Unset}
 use Rattle.whole.specs.Remembered.{spares}
+use Rattle.whole.specs.InWords.{InWords}
 use Rattle.whole.specs.NamedMoments.{Remembers, ComesBack, ReadsAlone}
 use Rattle.whole.specs.Groupings.{AllUnset, Grouping, parts, logOf, grouped, roomy}
 use Rattle.split_calls.specs.Refusals.{Refusals}
@@ -88,6 +90,8 @@ pub record Claim : Type 0 where
   -- after a return answers are those of the log as it stood at naming, followed by what came after the return
   pub returns : (names : List ℕ) → Unset names → (before : List Call) (k : ℕ) → isName k ≡ true → lies (length names) k ≡ true →
       (between : List Call) → spares k between ≡ true → (reads : List ℕ) → ComesBack names before k between reads
+  -- with the session in lent words they answer the same, and leave its words
+  pub in-words : (words : List ℕ) → sessionLength ≤ length words → (names : List ℕ) → Unset names → (calls : List Call) → InWords words names calls
   -- reads alone are a case
   pub reads-alone : (names reads : List ℕ) → ReadsAlone names reads
   -- new words for names have none set

@@ -3,6 +3,7 @@ pub mod Owed
 pub mod Moments
 pub mod Remembered
 pub mod NamedMoments
+pub mod InWords
 pub mod Groupings
 pub mod Cuttings
 pub mod Newcomers

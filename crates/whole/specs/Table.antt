@@ -1,11 +1,11 @@
--- The rows that 01 marks with a star, and 02's of newcomers, of slots looked at and of hit shares. Each has two halves: what the calls answer, and what the log's own definitions give.
+-- The rows that 01 marks with a star, and 02's of newcomers, of slots looked at, of hit shares and of named moments. Each has two halves: what the calls answer, and what the log's own definitions give.
 use Prim.Native.Nat.{ℕ}
 use mathlib.Core.Path.{_≡_}
 use mathlib.Core.List.{List, [], _∷_, _++_, map}
-use mathlib.Core.Bool.{false}
+use mathlib.Core.Bool.{true, false}
 use lib.IntN.{negsuc}
 use lib.Ieee.{binary64, fin, round}
-use lib.ListN.{replicate}
+use lib.ListN.{length, replicate}
 use Rattle.reuse.specs.Lru.{cold, at, reuses, distances}
 use Rattle.reuse.specs.Written.{wordOf}
 use Rattle.reuse.specs.Cache.{cacheMisses}
@@ -22,7 +22,11 @@ use Rattle.session.specs.Reads.{sumsRead, slotsLooked}
 use Rattle.session_summary.specs.Summaries.{shareCall as sessionShare}
 use Rattle.watch.specs.Watching.{newOf, shareCall as watchShare}
 use Rattle.whole.specs.Runs.{sessionAfter, answersOf, gives, outcome}
-use Rattle.whole.specs.Moments.{read}
+use Rattle.moments.specs.declared.MomentAnswer.the-variants.{Done, Refused}
+use Rattle.moments.specs.Names.{namesLength, lies}
+use Rattle.whole.specs.Owed.{Seen}
+use Rattle.whole.specs.Moments.{Call, read, name, returnTo, Told, reading, moment, heard, toldBy, begun, Unset}
+use Rattle.whole.specs.Remembered.{nothing, owedBy, remembered}
 use Rattle.whole.specs.Groupings.{Grouping, part, joined, grouped}
 use Rattle.whole.specs.Looks.{lookedAlong}
 use Rattle.whole.specs.Counts.{watching, cacheShare}
@@ -79,6 +83,29 @@ partOf reads = part (record { calls = map read reads; names = [] }) (replicate 2
 abbrev pub bothOf : List ℕ → List ℕ → Grouping
 bothOf a b = joined (partOf a) (partOf b) (replicate 20 5)
 
+-- 7 3, named 1; on with 9; back and on with 7; back and on with 3; a name that is not set; a number that is no name
+abbrev pub tries : List Call
+tries = read 7 ∷ read 3 ∷ name 1 ∷ read 9 ∷ returnTo 1 ∷ read 7 ∷ returnTo 1 ∷ read 3 ∷ returnTo 2 ∷ name 9 ∷ []
+
+-- cold 1, cold 2, done, cold 3, done, 2, done, 1, 11, 2
+abbrev pub triesTold : List (Told Seen)
+triesTold =
+    reading (gives (cold 1)) ∷ reading (gives (cold 2)) ∷ moment Done ∷ reading (gives (cold 3)) ∷ moment Done ∷ reading (gives (at 2))
+    ∷ moment Done ∷ reading (gives (at 1)) ∷ moment (Refused 11) ∷ moment (Refused 2) ∷ []
+
+-- 5, named 1; 6, named 1 again; on with 7; back and on with 6
+abbrev pub again : List Call
+again = read 5 ∷ name 1 ∷ read 6 ∷ name 1 ∷ read 7 ∷ returnTo 1 ∷ read 6 ∷ []
+
+-- cold 1, done, cold 2, done, cold 3, done, 1
+abbrev pub againTold : List (Told Seen)
+againTold =
+    reading (gives (cold 1)) ∷ moment Done ∷ reading (gives (cold 2)) ∷ moment Done ∷ reading (gives (cold 3)) ∷ moment Done ∷ reading (gives (at 1)) ∷ []
+
+-- these calls answer so, from a new session with no name set and room for the place of name 1
+abbrev pub CallsAre : List Call → List (Told Seen) → Type 0
+CallsAre calls answers = (names : List ℕ) → Unset names → lies (length names) 1 ≡ true → map heard (toldBy (begun names) calls) ≡ answers
+
 pub record Table : Type 0 where
   -- 7 3 7 9 3 3 9: cold 1, cold 2, 2, cold 3, 3, 1, 2; sums read 0 0 9 0 8 8 7; slots looked at 0 1 2 3 3 1 3
   pub reads-called : answersOf fresh seven
@@ -124,3 +151,9 @@ pub record Table : Type 0 where
   -- the share of the seven reads at 2: 3 by 4, which is a float, 3 * 2 ^ -2
   pub seven-share-called : HitSharesAre 2 seven (Share (round binary64 false 3 4))
   pub seven-share-defined : (cacheShare 2 seven ≡ Answered (Share (round binary64 false 3 4))) × (round binary64 false 3 4 ≡ fin false 3 (negsuc 1))
+  -- named moments: the answers of the tries; they end with the log 7 3 3
+  pub tries-called : CallsAre tries triesTold
+  pub tries-defined : (owedBy namesLength nothing tries ≡ triesTold) × (remembered namesLength tries ≡ 7 ∷ 3 ∷ 3 ∷ [])
+  -- naming again replaces: the log is 5 6 6
+  pub again-called : CallsAre again againTold
+  pub again-defined : (owedBy namesLength nothing again ≡ againTold) × (remembered namesLength again ≡ 5 ∷ 6 ∷ 6 ∷ [])
