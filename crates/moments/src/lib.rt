@@ -94,9 +94,9 @@ pub fn name_session(s: Session, names: &mut [u32], name: u32) -> MomentAnswer
 pub fn return_to(s: Session, names: &[u32], name: u32) -> Returned
     ensures { λ r. ⌜ r ≡ returnCall s (now (names .entry)) name ⌝ }
 {
-    let named = is_name(name);
+    let known = is_name(name);
     let set = is_set(names, name);
-    if !named {
+    if !known {
         return Returned {
             session: s,
             answer: MomentAnswer::Refused(2),

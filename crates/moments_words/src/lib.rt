@@ -19,11 +19,13 @@ fn done(a: MomentAnswer) -> bool
 pub fn name_session(words: &[u32], names: &mut [u32], name: u32) -> MomentAnswer
     ensures { λ r. ⌜ (r ≡ nameIn (now (words .entry)) (now (names .entry)) name .answer) × (now (names .exit) ≡ nameIn (now (words .entry)) (now (names .entry)) name .names) ⌝ }
 {
-    if !moments::is_name(name) {
+    let named = moments::is_name(name);
+    let kept = session_layout::session_in(words);
+    let enough = kept.enough;
+    if !named {
         return MomentAnswer::Refused(2);
     }
-    let kept = session_layout::session_in(words);
-    if !kept.enough {
+    if !enough {
         return MomentAnswer::Refused(7);
     }
     let s = kept.session;

@@ -90,9 +90,10 @@ module _ (lent : ℕ) (s : State) (m : Memory) (a : Agrees lent s m) where
         -- by what the name remembers
         by : (o : Moment) → Holds (s .names) j o → Holds (namedIn (s .names) k (s .session)) j o
         by none h = same ∙ h
-        by (log t) h =
-            (same ∙ h .0,
-            rw (other-session (s .names) k is f (s .session) (a .present .stands .wide) j (eqb-false j k e) (set-name (s .names) j (h .0))) (h .1))
+        by (log t) h = (
+          same ∙ h .0,
+          rw (other-session (s .names) k is f (s .session) (a .present .stands .wide) j (eqb-false j k e) (set-name (s .names) j (h .0))) (h .1),
+        )
 
   -- a naming, by whether the number is a name and there is room for its place
   name-told : (k : ℕ) (b : Bool) → isName k ≡ b → (c : Bool) → lies lent k ≡ c

@@ -24,6 +24,7 @@ use Rattle.whole.specs.Owed.{Seen, seenOf}
 use Rattle.whole.specs.Claim.{heldBy, Claims, Claim}
 use Rattle.whole.proofs.Calls.{calls-owed, no-trace, all-accepted, trace-stands, uncut, uncut-words}
 use Rattle.moments.proofs.Places.{new-unset}
+use Rattle.moments.proofs.Refusals.{naming-refusals, return-refusals}
 use Rattle.whole.proofs.NamedMoments.{remembers, comes-back, reads-alone}
 use Rattle.whole.proofs.InWords.{in-words}
 use Rattle.whole.proofs.Groupings.{session-outcome, grouping-outcome}
@@ -88,11 +89,13 @@ runs t w = record {
   hit-shares = hit-shares t w;
 }
 
--- demand 3, the numbers of newcomers after any words, what a watch in words takes, what a hit share may be, and the split of one store
+-- demand 3, named moments, the numbers of newcomers after any words, what a watch in words takes, what a hit share may be, and the split of one store
 pub claim : Claim
 claim = record {
   calls = calls-owed;
   no-trace = no-trace;
+  naming-refusals = naming-refusals;
+  return-refusals = return-refusals;
   moments = remembers;
   returns = comes-back;
   in-words = in-words;

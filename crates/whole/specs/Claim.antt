@@ -10,6 +10,7 @@ use Rattle.reuse.specs.Lru.{cold, at, reuses, newcomers, within}
 use Rattle.reuse.specs.Cache.{cacheHits}
 use Rattle.reuse.specs.Summary.{summaryOf, wellFormed}
 use Rattle.reuse.specs.Traces.{Within}
+use Rattle.session.specs.declared.Session.{Session}
 use Rattle.session.specs.declared.Answer.{Answer}
 use Rattle.session.specs.declared.Answer.the-variants.{Cold, Distance, Refused}
 use Rattle.session.specs.Sessions.{fresh}
@@ -25,6 +26,7 @@ use Rattle.texts.specs.Plans.{Plan, reads as planReads}
 use Rattle.texts.specs.PlanTexts.{planOf}
 use Rattle.plan_calls.specs.Calls.{workWords, runCall}
 use Rattle.session_layout.specs.Layout.{sessionLength}
+use Rattle.moments.specs.Refusals.{NamingRefusals, ReturnRefusals}
 use Rattle.moments.specs.Names.{namesLength, isName, lies, newNames}
 use Rattle.whole.specs.Runs.{planned, sessionAfter, answersOf, written, accepted, gives, refused, outcome, roomFor}
 use Rattle.whole.specs.Owed.{seenOf, owed}
@@ -85,6 +87,10 @@ pub record Claim : Type 0 where
   pub calls : (reads : List ℕ) → map seenOf (answersOf fresh reads) ≡ owed [] reads
   -- a refused read leaves no trace
   pub no-trace : (reads : List ℕ) → sessionAfter fresh reads ≡ sessionAfter fresh (accepted fresh reads)
+  -- a naming is refused exactly under the conditions of 2, 7 and 6, in this order, and a return under those of 2, 11 and 7; a
+  -- refusal leaves what was there: of any session, any words and any number
+  pub naming-refusals : (s : Session) (names : List ℕ) (k : ℕ) → NamingRefusals s names k
+  pub return-refusals : (s : Session) (names : List ℕ) (k : ℕ) → ReturnRefusals s names k
   -- reads, namings and returns in any order, from a new session with no name set, answer and leave what the remembered logs say
   pub moments : (names : List ℕ) → Unset names → (calls : List Call) → Remembers names calls
   -- after a return answers are those of the log as it stood at naming, followed by what came after the return

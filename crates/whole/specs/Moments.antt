@@ -8,8 +8,8 @@ use Rattle.session.specs.declared.Answer.{Answer}
 use Rattle.session.specs.Sessions.{fresh}
 use Rattle.session.specs.Reads.{readOf}
 use Rattle.moments.specs.declared.MomentAnswer.{MomentAnswer}
-use Rattle.moments.specs.declared.MomentAnswer.the-variants.{Done, Refused}
 use Rattle.moments.specs.Names.{isSet, nameCall, returnCall}
+use Rattle.moments.specs.Refusals.{momentRefusal}
 use Rattle.whole.specs.Runs.{gives, refused}
 use Rattle.whole.specs.Owed.{Seen, seenOf}
 
@@ -33,8 +33,7 @@ heard (moment a) = moment a
 abbrev pub refusalOf : Told Seen → ℕ
 refusalOf (reading (gives r)) = 0
 refusalOf (reading (refused n)) = n
-refusalOf (moment Done) = 0
-refusalOf (moment (Refused n)) = n
+refusalOf (moment a) = momentRefusal a
 
 -- what the calls work on: the present session, and the words lent for the names
 pub record State : Type 0 where

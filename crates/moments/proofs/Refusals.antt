@@ -1,0 +1,106 @@
+-- Each refusal of a naming and of a return is given exactly under its condition, in order, and leaves what was there.
+use mathlib.Core.Path.{_≡_, refl, sym, _∙_}
+use mathlib.Core.Logic.{_↔_}
+use Prim.Native.Nat.{ℕ, _<_}
+use native.Mathlib.Omega.{arith}
+use mathlib.Core.Bool.{Bool, true, false, cond, true≢false, false≢true}
+use mathlib.Core.List.{List}
+use lib.ListN.{length}
+use Rattle.session.specs.declared.Session.{Session}
+use Rattle.session.specs.Sessions.{sound}
+use Rattle.moments.specs.declared.MomentAnswer.{MomentAnswer}
+use Rattle.moments.specs.declared.MomentAnswer.the-variants.{Done, Refused}
+use Rattle.moments.specs.declared.Returned.{Returned}
+use Rattle.moments.specs.Names.{isName, lies, isSet, sessionUnder, namedIn, Named, notNamed, nameCall, notReturned, returnCall}
+use Rattle.moments.specs.Refusals.{momentRefusal, NamingRefusals, ReturnRefusals}
+use Rattle.moments.proofs.Places.{set-name}
+
+-- three tests, each looked at after those before it, and the numbers a, b and c
+abbrev answerBy : ℕ → ℕ → ℕ → Bool → Bool → Bool → MomentAnswer
+answerBy a b c p q r = cond p (cond q (cond r Done (Refused c)) (Refused b)) (Refused a)
+
+-- each number exactly under its condition
+module _ (a b c : ℕ) (some : 0 < a) (next : a < c) (last : c < b) where
+  exactly-first : (p q r : Bool) → momentRefusal (answerBy a b c p q r) ≡ a ↔ p ≡ false
+  exactly-first true true true = (λ e. absurd (omega arith), λ e. absurd (true≢false e))
+  exactly-first true true false = (λ e. absurd (omega arith), λ e. absurd (true≢false e))
+  exactly-first true false r = (λ e. absurd (omega arith), λ e. absurd (true≢false e))
+  exactly-first false q r = (λ e. refl, λ e. refl)
+
+  exactly-second : (p q r : Bool) → momentRefusal (answerBy a b c p q r) ≡ b ↔ ((p ≡ true) × (q ≡ false))
+  exactly-second true true true = (λ e. absurd (omega arith), λ e. absurd (true≢false (e .1)))
+  exactly-second true true false = (λ e. absurd (omega arith), λ e. absurd (true≢false (e .1)))
+  exactly-second true false r = (λ e. (refl, refl), λ e. refl)
+  exactly-second false q r = (λ e. absurd (omega arith), λ e. absurd (false≢true (e .0)))
+
+  exactly-third : (p q r : Bool) → momentRefusal (answerBy a b c p q r) ≡ c ↔ ((p ≡ true) × (q ≡ true) × (r ≡ false))
+  exactly-third true true true = (λ e. absurd (omega arith), λ e. absurd (true≢false (e .2)))
+  exactly-third true true false = (λ e. (refl, refl, refl), λ e. refl)
+  exactly-third true false r = (λ e. absurd (omega arith), λ e. absurd (false≢true (e .1)))
+  exactly-third false q r = (λ e. absurd (omega arith), λ e. absurd (false≢true (e .0)))
+
+module _ (s : Session) (names : List ℕ) (k : ℕ) where
+  -- a naming by its three tests
+  abbrev namedBy : Bool → Bool → Bool → Named
+  namedBy p q r = cond p (cond q (cond r (record { answer = Done; names = namedIn names k s }) (notNamed 6 names)) (notNamed 7 names)) (notNamed 2 names)
+
+  -- its answer
+  name-answer : (p q r : Bool) → namedBy p q r .answer ≡ answerBy 2 7 6 p q r
+  name-answer true true true = refl
+  name-answer true true false = refl
+  name-answer true false r = refl
+  name-answer false q r = refl
+
+  -- a refusal leaves the words
+  name-kept : (p q r : Bool) → (momentRefusal (namedBy p q r .answer) ≡ 0 → ⊥) → namedBy p q r .names ≡ names
+  name-kept true true true h = absurd (h refl)
+  name-kept true true false h = refl
+  name-kept true false r h = refl
+  name-kept false q r h = refl
+
+  -- of every naming
+  pub naming-refusals : NamingRefusals s names k
+  unfolding nameCall
+  naming-refusals =
+      let p : Bool = isName k in
+      let q : Bool = sound s in
+      let r : Bool = lies (length names) k in
+      record {
+        two = rw (name-answer p q r) (exactly-first 2 7 6 (omega arith) (omega arith) (omega arith) p q r);
+        seven = rw (name-answer p q r) (exactly-second 2 7 6 (omega arith) (omega arith) (omega arith) p q r);
+        six = rw (name-answer p q r) (exactly-third 2 7 6 (omega arith) (omega arith) (omega arith) p q r);
+        kept = name-kept p q r;
+      }
+
+  -- a return by its three tests
+  abbrev returnedBy : Bool → Bool → Bool → Returned
+  returnedBy p q r = cond p (cond q (cond r (record { session = sessionUnder names k; answer = Done }) (notReturned 7 s)) (notReturned 11 s)) (notReturned 2 s)
+
+  -- its answer
+  return-answer : (p q r : Bool) → returnedBy p q r .answer ≡ answerBy 2 11 7 p q r
+  return-answer true true true = refl
+  return-answer true true false = refl
+  return-answer true false r = refl
+  return-answer false q r = refl
+
+  -- a refusal leaves the present session
+  return-kept : (p q r : Bool) → (momentRefusal (returnedBy p q r .answer) ≡ 0 → ⊥) → returnedBy p q r .session ≡ s
+  return-kept true true true h = absurd (h refl)
+  return-kept true true false h = refl
+  return-kept true false r h = refl
+  return-kept false q r h = refl
+
+  -- of every return
+  pub return-refusals : ReturnRefusals s names k
+  unfolding returnCall
+  return-refusals =
+      let p : Bool = isName k in
+      let q : Bool = isSet names k in
+      let r : Bool = sound (sessionUnder names k) in
+      let third = exactly-third 2 11 7 (omega arith) (omega arith) (omega arith) p q r in
+      record {
+        two = rw (return-answer p q r) (exactly-first 2 11 7 (omega arith) (omega arith) (omega arith) p q r);
+        eleven = rw (return-answer p q r) (exactly-second 2 11 7 (omega arith) (omega arith) (omega arith) p q r);
+        seven = rw (return-answer p q r) (λ e. let h = third .0 e in (h .1, h .2), λ e. third .1 (set-name names k (e .0), e .0, e .1));
+        kept = return-kept p q r;
+      }
