@@ -18,7 +18,7 @@ use Rattle.reuse_copies.proofs.Puts.{put-cons, put-length, put-before, put-ther
 use Rattle.session_soundness.specs.Soundness.{Wide}
 use Rattle.session.specs.declared.Session.{Session}
 use Rattle.session_layout.specs.declared.Kept.{Kept}
-use Rattle.session_layout.specs.Layout.{sessionLength, part, sessionIn, keptIn, sessionLaid}
+use Rattle.session_layout.specs.Layout.{sessionLength, part, keptIn, sessionLaid}
 use Rattle.session_layout.proofs.Laid.{placed-whole, laid-length, read-whole}
 use Rattle.session_layout.proofs.Enough.{kept-all}
 use Rattle.summary_calls.specs.Calls.{wrote}
@@ -182,11 +182,7 @@ module _ (names : List ℕ) (k : ℕ) where
       ap length after-first ∙ length-take-le sessionLength (drop (placeStart k + 1) names) (omega (arith, h, length-drop (placeStart k + 1) names)) in
       ap (λ (t : Kept). t .session) (w ∙ kept-all (drop 1 (placeWords names k)) (omega (arith, l)))
 
--- so no name is set in words that are all 0
-pub zeros-unset : (n k : ℕ) → isSet (replicate n 0) k ≡ false
-zeros-unset n k = unset-word (replicate n 0) k (getD-blank-row n (placeStart k))
-
--- nor in new ones
+-- no name is set in new words
 pub new-unset : (names : List ℕ) → namesLength ≤ length names → (k : ℕ) → isSet (newNames names .buffer) k ≡ false
 unfolding newNames unnamed wrote
 new-unset names room k =

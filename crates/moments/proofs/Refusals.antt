@@ -1,5 +1,5 @@
 -- Each refusal of a naming and of a return is given exactly under its condition, in order, and leaves what was there.
-use mathlib.Core.Path.{_≡_, refl, sym, _∙_}
+use mathlib.Core.Path.{_≡_, refl}
 use mathlib.Core.Logic.{_↔_}
 use Prim.Native.Nat.{ℕ, _<_}
 use native.Mathlib.Omega.{arith}
@@ -73,7 +73,7 @@ module _ (s : Session) (names : List ℕ) (k : ℕ) where
       }
 
   -- a return by its three tests
-  abbrev returnedBy : Bool → Bool → Bool → Returned
+  abbrev pub returnedBy : Bool → Bool → Bool → Returned
   returnedBy p q r = cond p (cond q (cond r (record { session = sessionUnder names k; answer = Done }) (notReturned 7 s)) (notReturned 11 s)) (notReturned 2 s)
 
   -- its answer
@@ -84,11 +84,15 @@ module _ (s : Session) (names : List ℕ) (k : ℕ) where
   return-answer false q r = refl
 
   -- a refusal leaves the present session
-  return-kept : (p q r : Bool) → (momentRefusal (returnedBy p q r .answer) ≡ 0 → ⊥) → returnedBy p q r .session ≡ s
-  return-kept true true true h = absurd (h refl)
-  return-kept true true false h = refl
-  return-kept true false r h = refl
-  return-kept false q r h = refl
+  return-kept : (p q r : Bool) (n : ℕ) → returnedBy p q r .answer ≡ Refused n → returnedBy p q r .session ≡ s
+  return-kept true true true n e = let z : _≡_ {A = ℕ} 0 1 = cc in absurd (omega arith)
+  return-kept true true false n e = refl
+  return-kept true false r n e = refl
+  return-kept false q r n e = refl
+
+  pub returned-same : (n : ℕ) → returnCall s names k .answer ≡ Refused n → returnCall s names k .session ≡ s
+  unfolding returnCall
+  returned-same = return-kept (isName k) (isSet names k) (sound (sessionUnder names k))
 
   -- of every return
   pub return-refusals : ReturnRefusals s names k
@@ -102,5 +106,10 @@ module _ (s : Session) (names : List ℕ) (k : ℕ) where
         two = rw (return-answer p q r) (exactly-first 2 11 7 (omega arith) (omega arith) (omega arith) p q r);
         eleven = rw (return-answer p q r) (exactly-second 2 11 7 (omega arith) (omega arith) (omega arith) p q r);
         seven = rw (return-answer p q r) (λ e. let h = third .0 e in (h .1, h .2), λ e. third .1 (set-name names k (e .0), e .0, e .1));
-        kept = return-kept p q r;
+        kept = by (returnedBy p q r .answer) refl;
       }
+    where
+      -- by the answer
+      by : (a : MomentAnswer) → returnCall s names k .answer ≡ a → (momentRefusal a ≡ 0 → ⊥) → returnCall s names k .session ≡ s
+      by Done e h = absurd (h refl)
+      by (Refused n) e h = returned-same n e

@@ -16,8 +16,9 @@ use Rattle.session_layout.proofs.Laid.{laid-row, laid-read, laid-over}
 use Rattle.moments.specs.declared.MomentAnswer.{MomentAnswer}
 use Rattle.moments.specs.declared.MomentAnswer.the-variants.{Done, Refused}
 use Rattle.moments.specs.declared.Returned.{Returned}
-use Rattle.moments.specs.Names.{isName, isSet, sessionUnder, notNamed, nameCall, notReturned, returnCall}
+use Rattle.moments.specs.Names.{isName, isSet, sessionUnder, notNamed, nameCall, returnCall}
 use Rattle.moments.proofs.Calls.{name-not}
+use Rattle.moments.proofs.Refusals.{returnedBy, returned-same}
 use Rattle.moments_words.specs.Calls.{nameIn, Came, notCame, returnIn, isDone}
 
 module _ (w names : List ℕ) (k : ℕ) where
@@ -47,12 +48,9 @@ came : (w names : List ℕ) (k : ℕ) (s : Session) → returnIn w names k ≡ c
 unfolding returnIn returnCall
 came w names k s = by (isName k) (isSet names k) (sound (sessionUnder names k))
   where
-    -- a return by its three tests
-    back : Bool → Bool → Bool → Returned
-    back a b c = cond a (cond b (cond c (record { session = sessionUnder names k; answer = Done }) (notReturned 7 s)) (notReturned 11 s)) (notReturned 2 s)
-
+    -- by the three tests
     by : (a b c : Bool) → cond a (cond b (cond c (cameBy Done (sessionUnder names k) w) (notCame 7 w)) (notCame 11 w)) (notCame 2 w)
-        ≡ cameBy (back a b c .answer) (back a b c .session) w
+        ≡ cameBy (returnedBy s names k a b c .answer) (returnedBy s names k a b c .session) w
     by true true true = refl
     by true true false = refl
     by true false c = refl
@@ -108,24 +106,12 @@ module _ (s : Session) (wide : Wide (s .first) (s .hist) (s .slots) (s .sums)) (
   pub return-kept : let t = returnCall s names k .session in Wide (t .first) (t .hist) (t .slots) (t .sums)
       → returnIn (putAt w 0 (sessionLaid s)) names k
       ≡ record { answer = returnCall s names k .answer; words = putAt w 0 (sessionLaid (returnCall s names k .session)) }
-  unfolding returnIn returnCall
-  return-kept = by (isName k) (isSet names k) (sound (sessionUnder names k))
+  return-kept v = came (putAt w 0 (sessionLaid s)) names k s ∙ by (returnCall s names k .answer) refl
     where
-      -- the words that hold the session
-      held : List ℕ
-      held = putAt w 0 (sessionLaid s)
-
-      -- a return by its three tests
-      back : Bool → Bool → Bool → Returned
-      back a b c = cond a (cond b (cond c (record { session = sessionUnder names k; answer = Done }) (notReturned 7 s)) (notReturned 11 s)) (notReturned 2 s)
-
-      by : (a b c : Bool) → Wide (back a b c .session .first) (back a b c .session .hist) (back a b c .session .slots) (back a b c .session .sums)
-          → cond a (cond b (cond c (cameBy Done (sessionUnder names k) held) (notCame 7 held)) (notCame 11 held)) (notCame 2 held)
-          ≡ record { answer = back a b c .answer; words = putAt w 0 (sessionLaid (back a b c .session)) }
-      by true true true v =
-          simp (le-leb sessionLength (length held) (omega (arith, l, laid-row s wide w l)))
-          (ap (λ (r : List ℕ). record { answer = Done; words = r })
-          (laid-over s (sessionUnder names k) wide v w l))
-      by true true false v = refl
-      by true false c v = refl
-      by false b c v = refl
+      -- by the answer
+      by : (a : MomentAnswer) → returnCall s names k .answer ≡ a
+          → cameBy a (returnCall s names k .session) (putAt w 0 (sessionLaid s)) ≡ record { answer = a; words = putAt w 0 (sessionLaid (returnCall s names k .session)) }
+      by Done e =
+          simp (le-leb sessionLength (length (putAt w 0 (sessionLaid s))) (omega (arith, l, laid-row s wide w l)))
+          (ap (λ (r : List ℕ). record { answer = Done; words = r }) (laid-over s (returnCall s names k .session) wide v w l))
+      by (Refused n) e = ap (λ (t : Session). record { answer = Refused n; words = putAt w 0 (sessionLaid t) }) (sym (returned-same s names k n e))

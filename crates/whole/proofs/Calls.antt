@@ -9,7 +9,7 @@ use lib.ListN.{length, length-append}
 use borrow.Author.Tests.{ne-eqb, eqb-true, eqb-false, lt-ltb, le-ltb}
 use Rattle.reuse.specs.Limits.{maxReads, maxExtents}
 use Rattle.reuse.specs.Lists.{mem, firsts}
-use Rattle.reuse.specs.Lru.{Reuse, cold, at, depth, touch, stack, reuses, distance}
+use Rattle.reuse.specs.Lru.{cold, at, depth, touch, stack, reuses, distance}
 use Rattle.reuse.specs.Written.{wordOf}
 use Rattle.reuse.specs.Traces.{Within}
 use Rattle.reuse.proofs.Lists.{by-test, firsts-known, firsts-new, firsts-longer}
@@ -70,7 +70,7 @@ step-seen s x (gives (at d)) = refl
 step-seen s x (refused n) = refl
 
 -- a read's answer decides how the log grows
-pub kept-grown : (a : Answer) (t l : List ℕ) (x : ℕ) → t ++ keep a x l ≡ grown (seenOf a) t x ++ l
+kept-grown : (a : Answer) (t l : List ℕ) (x : ℕ) → t ++ keep a x l ≡ grown (seenOf a) t x ++ l
 kept-grown (Cold n k) t l x = sym (append-assoc t (x ∷ []) l)
 kept-grown (Distance d n k) t l x = sym (append-assoc t (x ∷ []) l)
 kept-grown (Refused n) t l x = refl
@@ -124,7 +124,7 @@ module _ (s : Session) (t : List ℕ) (g : Stands s t) (x : ℕ) where
       by (refused n) e = ap (λ (r : Step). sessionAfter s (keep (r .answer) x l)) e ∙ sym (ap (λ (r : Step). sessionAfter (r .session) l) e)
 
 -- what each of a list of calls answers
-pub calls-answer : (calls : List ℕ) (s : Session) (t : List ℕ) → Stands s t → map seenOf (answersOf s calls) ≡ owed t calls
+calls-answer : (calls : List ℕ) (s : Session) (t : List ℕ) → Stands s t → map seenOf (answersOf s calls) ≡ owed t calls
 unfolding answersOf owed
 calls-answer [] s t g = refl
 calls-answer (x ∷ xs) s t g = rw (read-owed s t g x, calls-answer xs (readOf s x .session) (grown (readOwed t x) t x) (read-grown s t g x))
@@ -134,14 +134,14 @@ pub calls-owed : (reads : List ℕ) → map seenOf (answersOf fresh reads) ≡ o
 calls-owed reads = calls-answer reads fresh [] fresh-stands
 
 -- after a list of calls the session stands for the reads accepted
-pub calls-stand : (calls : List ℕ) (s : Session) (t : List ℕ) → Stands s t → Stands (sessionAfter s calls) (t ++ accepted s calls)
+calls-stand : (calls : List ℕ) (s : Session) (t : List ℕ) → Stands s t → Stands (sessionAfter s calls) (t ++ accepted s calls)
 unfolding sessionAfter accepted
 calls-stand [] s t g = rw append-nil g
 calls-stand (x ∷ xs) s t g =
     rw (read-kept s t g x (accepted (readOf s x .session) xs)) (calls-stand xs (readOf s x .session) (grown (readOwed t x) t x) (read-grown s t g x))
 
 -- a refused read leaves no trace: the session is the one that the accepted reads alone leave
-pub no-trace-from : (calls : List ℕ) (s : Session) (t : List ℕ) → Stands s t → sessionAfter s calls ≡ sessionAfter s (accepted s calls)
+no-trace-from : (calls : List ℕ) (s : Session) (t : List ℕ) → Stands s t → sessionAfter s calls ≡ sessionAfter s (accepted s calls)
 unfolding sessionAfter accepted
 no-trace-from [] s t g = refl
 no-trace-from (x ∷ xs) s t g =

@@ -6,7 +6,6 @@ use lib.ListN.{length}
 use Rattle.reuse.specs.Lru.{cold, at}
 use Rattle.reuse_rows.specs.Rows.{putAt}
 use Rattle.session_soundness.specs.Soundness.{Wide}
-use Rattle.session.specs.declared.Session.{Session}
 use Rattle.session.specs.declared.Step.{Step}
 use Rattle.session.specs.Sessions.{fresh}
 use Rattle.session.specs.Reads.{readOf}

@@ -1,27 +1,25 @@
 -- Every run of calls from a new session with no name set: what it answers, and what its session and its names stand for.
-use mathlib.Core.Path.{_≡_, refl, sym, ap, _∙_}
+use mathlib.Core.Path.{_≡_, refl, ap, _∙_}
 use Prim.Native.Nat.{ℕ}
-use mathlib.Core.List.{List, [], _∷_, _++_, map}
+use mathlib.Core.List.{List, [], _∷_, map}
 use mathlib.Core.Bool.{Bool, true, false, cond}
 use lib.Dec.{eqb}
 use lib.ListN.{length}
 use borrow.Author.Tests.{eqb-true, eqb-false}
 use Rattle.reuse.specs.Traces.{Within}
-use Rattle.reuse.proofs.Lists.{by-test}
 use Rattle.session.specs.declared.Session.{Session}
 use Rattle.session.specs.Sessions.{fresh, sound}
 use Rattle.session.specs.Reads.{readOf}
 use Rattle.session_traces.proofs.Stands.{Stands, fresh-stands}
-use Rattle.moments.specs.declared.MomentAnswer.{MomentAnswer}
 use Rattle.moments.specs.declared.MomentAnswer.the-variants.{Done, Refused}
 use Rattle.moments.specs.declared.Returned.{Returned}
 use Rattle.moments.specs.Names.{isName, lies, isSet, sessionUnder, namedIn, Named, nameCall, returnCall}
 use Rattle.moments.proofs.Places.{set-name, named-length, named-set, named-session, other-set, other-session}
 use Rattle.moments.proofs.Calls.{name-not, name-short, name-done, return-not, return-unset, return-done}
-use Rattle.whole.specs.Runs.{sessionAfter, accepted}
+use Rattle.whole.specs.Runs.{sessionAfter}
 use Rattle.whole.specs.Owed.{readOwed, grown}
 use Rattle.whole.specs.Moments.{Call, read, name, returnTo, reading, moment, heard, State, told, left, stateAfter, toldBy, begun, Unset}
-use Rattle.whole.specs.Remembered.{Moment, none, log, Memory, nothing, nameOwed, noted, momentOwed, broughtBack, owedFor, then, remember, owedBy, remembered}
+use Rattle.whole.specs.Remembered.{Moment, none, log, Memory, nothing, noted, momentOwed, broughtBack, owedFor, then, remember, owedBy, remembered}
 use Rattle.whole.proofs.Calls.{stands-within, read-owed, read-grown, read-after}
 
 -- s is the session that reading the log t from a new one leaves, and it stands for t

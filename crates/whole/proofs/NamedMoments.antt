@@ -4,14 +4,15 @@ use Prim.Native.Nat.{ℕ}
 use mathlib.Core.List.{List, [], _∷_, _++_, map}
 use mathlib.Core.Bool.{true}
 use lib.ListN.{length}
+use Rattle.session.specs.declared.Session.{Session}
 use Rattle.session.specs.Sessions.{fresh}
 use Rattle.session.specs.Reads.{readOf}
 use Rattle.session_traces.proofs.Stands.{fresh-stands}
 use Rattle.moments.specs.Names.{isName, lies}
-use Rattle.whole.specs.Runs.{sessionAfter, answersOf, accepted}
-use Rattle.whole.specs.Owed.{Seen, owed}
+use Rattle.whole.specs.Runs.{sessionAfter, answersOf}
+use Rattle.whole.specs.Owed.{owed}
 use Rattle.moments.specs.declared.MomentAnswer.the-variants.{Done}
-use Rattle.whole.specs.Moments.{Call, read, name, returnTo, Told, reading, moment, heard, State, left, stateAfter, toldBy, begun, Unset}
+use Rattle.whole.specs.Moments.{Call, read, name, returnTo, reading, moment, heard, State, left, stateAfter, toldBy, begun, Unset}
 use Rattle.whole.specs.Remembered.{Moment, none, log, Memory, nothing, owedFor, then, remember, owedBy, remembered, spares}
 use Rattle.whole.specs.NamedMoments.{HasLog, Remembers, comingBack, ComesBack, ReadsAlone}
 use Rattle.whole.proofs.Moments.{Holds, run-answers, run-agrees, run-reads, run-within}
@@ -30,6 +31,7 @@ remembers names unset calls = record {
   roomy = λ room. rw (run-answers names unset calls) (never-six (length names) room calls nothing);
   within = run-within names unset calls;
   session = run-reads names unset calls .same;
+  read-next = λ x. ap (λ (s : Session). reading (readOf s x .answer)) (run-reads names unset calls .same);
   under = λ k. has-log (stateAfter (begun names) calls .names) k (remember (length names) nothing calls .under k) (run-agrees names unset calls .moments k);
 }
 

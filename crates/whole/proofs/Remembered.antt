@@ -2,14 +2,14 @@
 use mathlib.Core.Path.{_≡_, refl, sym, ap, _∙_}
 use Prim.Native.Nat.{ℕ, _≤_}
 use mathlib.Core.List.{List, [], _∷_, _++_, map, append-nil}
-use mathlib.Core.Bool.{Bool, true, false, cond, not, or-false}
+use mathlib.Core.Bool.{Bool, true, false, cond, not}
 use lib.Dec.{eqb, ltb}
 use lib.ListN.{length}
-use borrow.Author.Tests.{not-true, ne-eqb}
+use borrow.Author.Tests.{not-true}
 use Rattle.reuse.specs.Limits.{maxReads, maxExtents}
 use Rattle.reuse.specs.Lists.{mem, allIn, firsts}
 use Rattle.reuse.specs.Lru.{distance}
-use Rattle.reuse.proofs.Lists.{by-test, both, eqb-same}
+use Rattle.reuse.proofs.Lists.{both, eqb-same}
 use Rattle.session.specs.declared.Session.{Session}
 use Rattle.session.specs.Reads.{readOf}
 use Rattle.session_traces.proofs.Stands.{Stands}
@@ -18,9 +18,8 @@ use Rattle.moments.specs.Names.{namesLength, isName, lies}
 use Rattle.moments.proofs.Places.{names-lie}
 use Rattle.whole.specs.Runs.{gives, refused, accepted}
 use Rattle.whole.specs.Owed.{readOwed, grown, owed}
-use Rattle.whole.specs.Moments.{Call, read, name, returnTo, Told, reading, moment, refusalOf}
-use Rattle.whole.specs.Owed.{Seen}
-use Rattle.whole.specs.Remembered.{Moment, none, log, Memory, momentOwed, noted, nameOwed, owedFor, then, remember, owedBy, spares, owedRefusals}
+use Rattle.whole.specs.Moments.{Call, read, name, returnTo, reading, moment, refusalOf}
+use Rattle.whole.specs.Remembered.{Moment, none, log, Memory, momentOwed, noted, owedFor, then, remember, owedBy, spares, owedRefusals}
 use Rattle.whole.proofs.Calls.{read-grown, read-kept}
 
 module _ (lent : ℕ) where

@@ -1,17 +1,18 @@
 -- Named moments: what holds of every list of calls from a new session with no name set (02, ask 5).
 use Prim.Native.Nat.{ℕ, _≤_}
 use mathlib.Core.Path.{_≡_}
-use mathlib.Core.List.{List, [], _∷_, _++_, map}
+use mathlib.Core.List.{List, _∷_, _++_, map}
 use mathlib.Core.Bool.{true, false}
 use lib.ListN.{length}
 use Rattle.reuse.specs.Lists.{mem, allIn}
 use Rattle.reuse.specs.Traces.{Within}
 use Rattle.session.specs.Sessions.{fresh}
+use Rattle.session.specs.Reads.{readOf}
 use Rattle.moments.specs.declared.MomentAnswer.the-variants.{Done}
 use Rattle.moments.specs.Names.{namesLength, isSet, sessionUnder}
 use Rattle.whole.specs.Runs.{sessionAfter, answersOf, accepted}
 use Rattle.whole.specs.Owed.{owed}
-use Rattle.whole.specs.Moments.{Call, read, name, returnTo, reading, moment, heard, refusalOf, stateAfter, toldBy, begun}
+use Rattle.whole.specs.Moments.{Call, read, name, returnTo, reading, moment, heard, refusalOf, told, stateAfter, toldBy, begun}
 use Rattle.whole.specs.Remembered.{Moment, none, log, nothing, remember, owedBy, remembered, owedRefusals}
 
 -- what name k has in the words: it is not set where nothing is remembered under it; else it is set, and its session is the
@@ -36,6 +37,8 @@ pub record Remembers (names : List ℕ) (calls : List Call) : Type 0 where
   pub within : Within (remembered (length names) calls)
   -- the session is the one that reading it leaves
   pub session : stateAfter (begun names) calls .session ≡ sessionAfter fresh (remembered (length names) calls)
+  -- so a further read answers, with its sums read and its slots looked at, what it does after that reading
+  pub read-next : (x : ℕ) → told (stateAfter (begun names) calls) (read x) ≡ reading (readOf (sessionAfter fresh (remembered (length names) calls)) x .answer)
   -- each name has what it remembers
   pub under : (k : ℕ) → HasLog (stateAfter (begun names) calls .names) k (remember (length names) nothing calls .under k)
 

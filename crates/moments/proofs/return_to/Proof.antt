@@ -1,15 +1,12 @@
 -- `moments::return_to` meets its contract.
 use mathlib.Core.Path.{_≡_, sym, ap, _∙_}
-use Prim.Native.Nat.{_+_, _≤_}
 use native.Mathlib.Omega.{arith}
 use mathlib.Core.Bool.{true}
-use lib.ListN.{length}
 use borrow.Author.Tests.{not-true, not-false}
 use Rattle.session.specs.declared.Session.{Session}
 use Rattle.session.specs.Sessions.{sound}
-use Rattle.moments.specs.declared.Returned.{Returned}
 use Rattle.moments.specs.declared.MomentAnswer.the-variants.{Done}
-use Rattle.moments.specs.Names.{placeLength, isName, placeStart, isSet, sessionUnder}
+use Rattle.moments.specs.Names.{isName, isSet, sessionUnder}
 use Rattle.moments.proofs.Places.{place-within, set-lies, kept-under}
 use Rattle.moments.proofs.Calls.{return-not, return-unset, return-unsound, return-done}
 use borrow.Author.Needs.{needs}

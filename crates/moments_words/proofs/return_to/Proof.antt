@@ -1,8 +1,7 @@
 -- `moments_words::return_to` meets its contract.
-use mathlib.Core.Path.{_≡_, sym, ap, _∙_}
+use mathlib.Core.Path.{sym, _∙_}
 use borrow.Author.Tests.{not-true, not-false}
 use Rattle.session_soundness.specs.Soundness.{Wide}
-use Rattle.session.specs.declared.Session.{Session}
 use Rattle.session_layout.proofs.Laid.{laid-fits}
 use Rattle.moments_words.proofs.Kept.{came-refused, came-short, came-all, apart}
 use borrow.Author.Needs.{needs}
