@@ -9,6 +9,7 @@ int main(int count, char **words) {
         set_rounds(std::stoi(given[4]));
         batch_tables();
         session_table();
+        moment_table();
         join_tables();
         split_table();
         listing_table(given[1], given[2], given[3]);

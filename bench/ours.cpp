@@ -73,3 +73,13 @@ Words session_summary(const Words &session) {
     out.resize(accepted(answer, "jemqolu_session_summary"));
     return out;
 }
+
+void session_name(const Words &session, Words &names, uint32_t name) {
+    accepted(jemqolu_session_name(session.data(), session.size(), names.data(), names.size(), name),
+             "jemqolu_session_name");
+}
+
+void session_return(Words &session, const Words &names, uint32_t name) {
+    accepted(jemqolu_session_return(session.data(), session.size(), names.data(), names.size(), name),
+             "jemqolu_session_return");
+}

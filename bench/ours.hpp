@@ -31,3 +31,7 @@ struct Reading {
 Words new_session();
 Reading session_read(Words &session, uint32_t extent);
 Words session_summary(const Words &session);
+
+// The session put under a name, and the session under a name returned to.
+void session_name(const Words &session, Words &names, uint32_t name);
+void session_return(Words &session, const Words &names, uint32_t name);

@@ -6,6 +6,7 @@
 // Each prints its tables.
 void batch_tables();
 void session_table();
+void moment_table();
 void join_tables();
 void split_table();
 void listing_table(const std::string &sizing, const std::string &peer, const std::string &folder);
