@@ -16,24 +16,24 @@ use Rattle.moments.specs.Refusals.{momentRefusal, NamingRefusals, Return
 use Rattle.moments.proofs.Places.{set-name}
 
 -- three tests, each looked at after those before it, and the numbers a, b and c
-abbrev answerBy : ℕ → ℕ → ℕ → Bool → Bool → Bool → MomentAnswer
+abbrev pub answerBy : ℕ → ℕ → ℕ → Bool → Bool → Bool → MomentAnswer
 answerBy a b c p q r = cond p (cond q (cond r Done (Refused c)) (Refused b)) (Refused a)
 
 -- each number exactly under its condition
 module _ (a b c : ℕ) (some : 0 < a) (next : a < c) (last : c < b) where
-  exactly-first : (p q r : Bool) → momentRefusal (answerBy a b c p q r) ≡ a ↔ p ≡ false
+  pub exactly-first : (p q r : Bool) → momentRefusal (answerBy a b c p q r) ≡ a ↔ p ≡ false
   exactly-first true true true = (λ e. absurd (omega arith), λ e. absurd (true≢false e))
   exactly-first true true false = (λ e. absurd (omega arith), λ e. absurd (true≢false e))
   exactly-first true false r = (λ e. absurd (omega arith), λ e. absurd (true≢false e))
   exactly-first false q r = (λ e. refl, λ e. refl)
 
-  exactly-second : (p q r : Bool) → momentRefusal (answerBy a b c p q r) ≡ b ↔ ((p ≡ true) × (q ≡ false))
+  pub exactly-second : (p q r : Bool) → momentRefusal (answerBy a b c p q r) ≡ b ↔ ((p ≡ true) × (q ≡ false))
   exactly-second true true true = (λ e. absurd (omega arith), λ e. absurd (true≢false (e .1)))
   exactly-second true true false = (λ e. absurd (omega arith), λ e. absurd (true≢false (e .1)))
   exactly-second true false r = (λ e. (refl, refl), λ e. refl)
   exactly-second false q r = (λ e. absurd (omega arith), λ e. absurd (false≢true (e .0)))
 
-  exactly-third : (p q r : Bool) → momentRefusal (answerBy a b c p q r) ≡ c ↔ ((p ≡ true) × (q ≡ true) × (r ≡ false))
+  pub exactly-third : (p q r : Bool) → momentRefusal (answerBy a b c p q r) ≡ c ↔ ((p ≡ true) × (q ≡ true) × (r ≡ false))
   exactly-third true true true = (λ e. absurd (omega arith), λ e. absurd (true≢false (e .2)))
   exactly-third true true false = (λ e. (refl, refl, refl), λ e. refl)
   exactly-third true false r = (λ e. absurd (omega arith), λ e. absurd (false≢true (e .1)))
@@ -41,7 +41,7 @@ module _ (a b c : ℕ) (some : 0 < a) (next : a < c) (last : c < b) where
 
 module _ (s : Session) (names : List ℕ) (k : ℕ) where
   -- a naming by its three tests
-  abbrev namedBy : Bool → Bool → Bool → Named
+  abbrev pub namedBy : Bool → Bool → Bool → Named
   namedBy p q r = cond p (cond q (cond r (record { answer = Done; names = namedIn names k s }) (notNamed 6 names)) (notNamed 7 names)) (notNamed 2 names)
 
   -- its answer

@@ -25,6 +25,7 @@ use Rattle.whole.specs.Claim.{heldBy, Claims, Claim}
 use Rattle.whole.proofs.Calls.{calls-owed, no-trace, all-accepted, trace-stands, uncut, uncut-words}
 use Rattle.moments.proofs.Places.{new-unset}
 use Rattle.moments.proofs.Refusals.{naming-refusals, return-refusals}
+use Rattle.moments_words.proofs.Refusals.{naming-in-words, return-in-words}
 use Rattle.whole.proofs.NamedMoments.{remembers, comes-back, reads-alone}
 use Rattle.whole.proofs.InWords.{in-words}
 use Rattle.whole.proofs.Groupings.{session-outcome, grouping-outcome}
@@ -96,6 +97,8 @@ claim = record {
   no-trace = no-trace;
   naming-refusals = naming-refusals;
   return-refusals = return-refusals;
+  naming-in-words = naming-in-words;
+  return-in-words = return-in-words;
   moments = remembers;
   returns = comes-back;
   in-words = in-words;

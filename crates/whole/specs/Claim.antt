@@ -27,6 +27,7 @@ use Rattle.texts.specs.PlanTexts.{planOf}
 use Rattle.plan_calls.specs.Calls.{workWords, runCall}
 use Rattle.session_layout.specs.Layout.{sessionLength}
 use Rattle.moments.specs.Refusals.{NamingRefusals, ReturnRefusals}
+use Rattle.moments_words.specs.Refusals.{NamingInWords, ReturnInWords}
 use Rattle.moments.specs.Names.{namesLength, isName, lies, newNames}
 use Rattle.whole.specs.Runs.{planned, sessionAfter, answersOf, written, accepted, gives, refused, outcome, roomFor}
 use Rattle.whole.specs.Owed.{seenOf, owed}
@@ -91,6 +92,9 @@ pub record Claim : Type 0 where
   -- refusal leaves what was there: of any session, any words and any number
   pub naming-refusals : (s : Session) (names : List ℕ) (k : ℕ) → NamingRefusals s names k
   pub return-refusals : (s : Session) (names : List ℕ) (k : ℕ) → ReturnRefusals s names k
+  -- with the session in lent words too few of them are 7 for a naming, and 6, last, for a return
+  pub naming-in-words : (words names : List ℕ) (k : ℕ) → NamingInWords words names k
+  pub return-in-words : (words names : List ℕ) (k : ℕ) → ReturnInWords words names k
   -- reads, namings and returns in any order, from a new session with no name set, answer and leave what the remembered logs say
   pub moments : (names : List ℕ) → Unset names → (calls : List Call) → Remembers names calls
   -- after a return answers are those of the log as it stood at naming, followed by what came after the return
