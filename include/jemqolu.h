@@ -170,7 +170,7 @@ int64_t jemqolu_session_share(const uint32_t *session, size_t session_len, uint3
  *   its word 0         whether the name is set: 0 where it is not, any other number where it is
  *   its words 1..2049  the session under the name
  * Of fewer words than all 16,400, the names whose places lie within them can be used. Words past these are neither read nor
- * written. */
+ * written. A naming and a return take no longer than a read. */
 
 /* Names of which none is set. Lent: 16,400 words, which become 0. Answer: 16,400. Refusal: -6. */
 int64_t jemqolu_names_new(uint32_t *names, size_t names_len);

@@ -11,9 +11,8 @@ use borrow.Author.Tests.{lt-leb, leb-false}
 use Rattle.reuse_rows.specs.Rows.{putAt}
 use Rattle.session.specs.Sessions.{sound}
 use Rattle.session_layout.specs.Layout.{sessionLength, sessionIn, sessionLaid}
-use Rattle.moments.specs.declared.MomentAnswer.{MomentAnswer}
-use Rattle.moments.specs.declared.MomentAnswer.the-variants.{Done, Refused}
-use Rattle.moments.specs.Names.{isName, lies, isSet, sessionUnder, namedIn, Named, notNamed, nameCall}
+use Rattle.moments.specs.declared.MomentAnswer.the-variants.{Done}
+use Rattle.moments.specs.Names.{isName, lies, isSet, sessionUnder, Named, notNamed, nameCall}
 use Rattle.moments.specs.Refusals.{momentRefusal}
 use Rattle.moments.proofs.Places.{set-name}
 use Rattle.moments.proofs.Refusals.{answerBy, exactly-first, exactly-second, exactly-third, namedBy}
