@@ -15,29 +15,38 @@ use Rattle.moments.specs.Names.{isName, lies, isSet, sessionUnder, named
 use Rattle.moments.specs.Refusals.{momentRefusal, NamingRefusals, ReturnRefusals}
 use Rattle.moments.proofs.Places.{set-name}
 
--- three tests, each looked at after those before it, and the numbers a, b and c
-abbrev pub answerBy : ℕ → ℕ → ℕ → Bool → Bool → Bool → MomentAnswer
-answerBy a b c p q r = cond p (cond q (cond r Done (Refused c)) (Refused b)) (Refused a)
+-- three tests, each looked at after those before it, with the numbers a, b and c, and the answer where all of them hold
+abbrev pub answerBy : ℕ → ℕ → ℕ → MomentAnswer → Bool → Bool → Bool → MomentAnswer
+answerBy a b c rest p q r = cond p (cond q (cond r rest (Refused c)) (Refused b)) (Refused a)
 
--- each number exactly under its condition
-module _ (a b c : ℕ) (some : 0 < a) (next : a < c) (last : c < b) where
-  pub exactly-first : (p q r : Bool) → momentRefusal (answerBy a b c p q r) ≡ a ↔ p ≡ false
-  exactly-first true true true = (λ e. absurd (omega arith), λ e. absurd (true≢false e))
-  exactly-first true true false = (λ e. absurd (omega arith), λ e. absurd (true≢false e))
-  exactly-first true false r = (λ e. absurd (omega arith), λ e. absurd (true≢false e))
-  exactly-first false q r = (λ e. refl, λ e. refl)
+-- each number exactly under its condition, where that answer has another
+module _ (a b c : ℕ) (next : a < c) (last : c < b) (rest : MomentAnswer) where
+  pub exactly-first : (momentRefusal rest ≡ a → ⊥) → (p q r : Bool) → momentRefusal (answerBy a b c rest p q r) ≡ a ↔ p ≡ false
+  exactly-first h true true true = (λ e. absurd (h e), λ e. absurd (true≢false e))
+  exactly-first h true true false = (λ e. absurd (omega arith), λ e. absurd (true≢false e))
+  exactly-first h true false r = (λ e. absurd (omega arith), λ e. absurd (true≢false e))
+  exactly-first h false q r = (λ e. refl, λ e. refl)
 
-  pub exactly-second : (p q r : Bool) → momentRefusal (answerBy a b c p q r) ≡ b ↔ ((p ≡ true) × (q ≡ false))
-  exactly-second true true true = (λ e. absurd (omega arith), λ e. absurd (true≢false (e .1)))
-  exactly-second true true false = (λ e. absurd (omega arith), λ e. absurd (true≢false (e .1)))
-  exactly-second true false r = (λ e. (refl, refl), λ e. refl)
-  exactly-second false q r = (λ e. absurd (omega arith), λ e. absurd (false≢true (e .0)))
+  pub exactly-second : (momentRefusal rest ≡ b → ⊥) → (p q r : Bool) → momentRefusal (answerBy a b c rest p q r) ≡ b ↔ ((p ≡ true) × (q ≡ false))
+  exactly-second h true true true = (λ e. absurd (h e), λ e. absurd (true≢false (e .1)))
+  exactly-second h true true false = (λ e. absurd (omega arith), λ e. absurd (true≢false (e .1)))
+  exactly-second h true false r = (λ e. (refl, refl), λ e. refl)
+  exactly-second h false q r = (λ e. absurd (omega arith), λ e. absurd (false≢true (e .0)))
 
-  pub exactly-third : (p q r : Bool) → momentRefusal (answerBy a b c p q r) ≡ c ↔ ((p ≡ true) × (q ≡ true) × (r ≡ false))
-  exactly-third true true true = (λ e. absurd (omega arith), λ e. absurd (true≢false (e .2)))
-  exactly-third true true false = (λ e. (refl, refl, refl), λ e. refl)
-  exactly-third true false r = (λ e. absurd (omega arith), λ e. absurd (false≢true (e .1)))
-  exactly-third false q r = (λ e. absurd (omega arith), λ e. absurd (false≢true (e .0)))
+  pub exactly-third : (momentRefusal rest ≡ c → ⊥) → (p q r : Bool)
+      → momentRefusal (answerBy a b c rest p q r) ≡ c ↔ ((p ≡ true) × (q ≡ true) × (r ≡ false))
+  exactly-third h true true true = (λ e. absurd (h e), λ e. absurd (true≢false (e .2)))
+  exactly-third h true true false = (λ e. (refl, refl, refl), λ e. refl)
+  exactly-third h true false r = (λ e. absurd (omega arith), λ e. absurd (false≢true (e .1)))
+  exactly-third h false q r = (λ e. absurd (omega arith), λ e. absurd (false≢true (e .0)))
+
+  -- any other number is that answer's, where all tests hold
+  pub exactly-rest : (n : ℕ) → (a ≡ n → ⊥) → (b ≡ n → ⊥) → (c ≡ n → ⊥) → (p q r : Bool)
+      → momentRefusal (answerBy a b c rest p q r) ≡ n ↔ ((p ≡ true) × (q ≡ true) × (r ≡ true) × (momentRefusal rest ≡ n))
+  exactly-rest n x y z true true true = (λ e. (refl, refl, refl, e), λ e. e .3)
+  exactly-rest n x y z true true false = (λ e. absurd (z e), λ e. absurd (false≢true (e .2)))
+  exactly-rest n x y z true false r = (λ e. absurd (y e), λ e. absurd (false≢true (e .1)))
+  exactly-rest n x y z false q r = (λ e. absurd (x e), λ e. absurd (false≢true (e .0)))
 
 module _ (s : Session) (names : List ℕ) (k : ℕ) where
   -- a naming by its three tests
@@ -45,7 +54,7 @@ module _ (s : Session) (names : List ℕ) (k : ℕ) where
   namedBy p q r = cond p (cond q (cond r (record { answer = Done; names = namedIn names k s }) (notNamed 6 names)) (notNamed 7 names)) (notNamed 2 names)
 
   -- its answer
-  name-answer : (p q r : Bool) → namedBy p q r .answer ≡ answerBy 2 7 6 p q r
+  name-answer : (p q r : Bool) → namedBy p q r .answer ≡ answerBy 2 7 6 Done p q r
   name-answer true true true = refl
   name-answer true true false = refl
   name-answer true false r = refl
@@ -66,9 +75,9 @@ module _ (s : Session) (names : List ℕ) (k : ℕ) where
       let q : Bool = sound s in
       let r : Bool = lies (length names) k in
       record {
-        two = rw (name-answer p q r) (exactly-first 2 7 6 (omega arith) (omega arith) (omega arith) p q r);
-        seven = rw (name-answer p q r) (exactly-second 2 7 6 (omega arith) (omega arith) (omega arith) p q r);
-        six = rw (name-answer p q r) (exactly-third 2 7 6 (omega arith) (omega arith) (omega arith) p q r);
+        two = rw (name-answer p q r) (exactly-first 2 7 6 (omega arith) (omega arith) Done (λ e. omega arith) p q r);
+        seven = rw (name-answer p q r) (exactly-second 2 7 6 (omega arith) (omega arith) Done (λ e. omega arith) p q r);
+        six = rw (name-answer p q r) (exactly-third 2 7 6 (omega arith) (omega arith) Done (λ e. omega arith) p q r);
         kept = name-kept p q r;
       }
 
@@ -77,7 +86,7 @@ module _ (s : Session) (names : List ℕ) (k : ℕ) where
   returnedBy p q r = cond p (cond q (cond r (record { session = sessionUnder names k; answer = Done }) (notReturned 7 s)) (notReturned 11 s)) (notReturned 2 s)
 
   -- its answer
-  return-answer : (p q r : Bool) → returnedBy p q r .answer ≡ answerBy 2 11 7 p q r
+  return-answer : (p q r : Bool) → returnedBy p q r .answer ≡ answerBy 2 11 7 Done p q r
   return-answer true true true = refl
   return-answer true true false = refl
   return-answer true false r = refl
@@ -101,10 +110,10 @@ module _ (s : Session) (names : List ℕ) (k : ℕ) where
       let p : Bool = isName k in
       let q : Bool = isSet names k in
       let r : Bool = sound (sessionUnder names k) in
-      let third = exactly-third 2 11 7 (omega arith) (omega arith) (omega arith) p q r in
+      let third = exactly-third 2 11 7 (omega arith) (omega arith) Done (λ e. omega arith) p q r in
       record {
-        two = rw (return-answer p q r) (exactly-first 2 11 7 (omega arith) (omega arith) (omega arith) p q r);
-        eleven = rw (return-answer p q r) (exactly-second 2 11 7 (omega arith) (omega arith) (omega arith) p q r);
+        two = rw (return-answer p q r) (exactly-first 2 11 7 (omega arith) (omega arith) Done (λ e. omega arith) p q r);
+        eleven = rw (return-answer p q r) (exactly-second 2 11 7 (omega arith) (omega arith) Done (λ e. omega arith) p q r);
         seven = rw (return-answer p q r) (λ e. let h = third .0 e in (h .1, h .2), λ e. third .1 (set-name names k (e .0), e .0, e .1));
         kept = by (returnedBy p q r .answer) refl;
       }

@@ -3,7 +3,7 @@ use mathlib.Core.Path.{_≡_, refl}
 use mathlib.Core.Logic.{_↔_}
 use Prim.Native.Nat.{ℕ}
 use native.Mathlib.Omega.{arith}
-use mathlib.Core.Bool.{Bool, true, false, cond, _&&_, true≢false, false≢true}
+use mathlib.Core.Bool.{Bool, true, false, cond, _&&_, true≢false}
 use mathlib.Core.List.{List}
 use lib.Dec.{leb}
 use lib.ListN.{length}
@@ -11,13 +11,28 @@ use borrow.Author.Tests.{lt-leb, leb-false}
 use Rattle.reuse_rows.specs.Rows.{putAt}
 use Rattle.session.specs.Sessions.{sound}
 use Rattle.session_layout.specs.Layout.{sessionLength, sessionIn, sessionLaid}
-use Rattle.moments.specs.declared.MomentAnswer.the-variants.{Done}
+use Rattle.moments.specs.declared.MomentAnswer.{MomentAnswer}
+use Rattle.moments.specs.declared.MomentAnswer.the-variants.{Done, Refused}
 use Rattle.moments.specs.Names.{isName, lies, isSet, sessionUnder, Named, notNamed, nameCall}
 use Rattle.moments.specs.Refusals.{momentRefusal}
 use Rattle.moments.proofs.Places.{set-name}
-use Rattle.moments.proofs.Refusals.{answerBy, exactly-first, exactly-second, exactly-third, namedBy}
+use Rattle.moments.proofs.Refusals.{answerBy, exactly-first, exactly-second, exactly-third, exactly-rest, namedBy}
 use Rattle.moments_words.specs.Calls.{Came, notCame, nameIn, returnIn}
 use Rattle.moments_words.specs.Refusals.{NamingInWords, ReturnInWords}
+
+-- the answer of a return where nothing but room for the session is asked
+abbrev roomed : Bool → MomentAnswer
+roomed e = cond e Done (Refused 6)
+
+-- it has no number but 6
+roomed-other : (e : Bool) (n : ℕ) → (0 ≡ n → ⊥) → (6 ≡ n → ⊥) → momentRefusal (roomed e) ≡ n → ⊥
+roomed-other true n x y h = x h
+roomed-other false n x y h = y h
+
+-- and that exactly if there is no room
+roomed-six : (e : Bool) → momentRefusal (roomed e) ≡ 6 ↔ e ≡ false
+roomed-six true = (λ n. absurd (omega arith), λ h. absurd (true≢false h))
+roomed-six false = (λ n. refl, λ h. refl)
 
 module _ (w names : List ℕ) (k : ℕ) where
   -- a naming by its tests: the name, enough words, the session in them, the place
@@ -25,7 +40,7 @@ module _ (w names : List ℕ) (k : ℕ) where
   named p e q r = cond p (cond e (namedBy (sessionIn w) names k p q r) (notNamed 7 names)) (notNamed 2 names)
 
   -- its answer
-  name-answer : (p e q r : Bool) → named p e q r .answer ≡ answerBy 2 7 6 p (e && q) r
+  name-answer : (p e q r : Bool) → named p e q r .answer ≡ answerBy 2 7 6 Done p (e && q) r
   name-answer true true true true = refl
   name-answer true true true false = refl
   name-answer true true false r = refl
@@ -49,9 +64,9 @@ module _ (w names : List ℕ) (k : ℕ) where
       let q : Bool = sound (sessionIn w) in
       let r : Bool = lies (length names) k in
       record {
-        two = rw (name-answer p e q r) (exactly-first 2 7 6 (omega arith) (omega arith) (omega arith) p (e && q) r);
-        seven = rw (name-answer p e q r) (exactly-second 2 7 6 (omega arith) (omega arith) (omega arith) p (e && q) r);
-        six = rw (name-answer p e q r) (exactly-third 2 7 6 (omega arith) (omega arith) (omega arith) p (e && q) r);
+        two = rw (name-answer p e q r) (exactly-first 2 7 6 (omega arith) (omega arith) Done (λ n. omega arith) p (e && q) r);
+        seven = rw (name-answer p e q r) (exactly-second 2 7 6 (omega arith) (omega arith) Done (λ n. omega arith) p (e && q) r);
+        six = rw (name-answer p e q r) (exactly-third 2 7 6 (omega arith) (omega arith) Done (λ n. omega arith) p (e && q) r);
         kept = name-kept p e q r;
       }
 
@@ -64,34 +79,13 @@ module _ (w names : List ℕ) (k : ℕ) where
       (notCame 11 w))
       (notCame 2 w)
 
-  -- each number exactly under its condition
-  back-two : (p q r e : Bool) → momentRefusal (back p q r e .answer) ≡ 2 ↔ p ≡ false
-  back-two true true true true = (λ n. absurd (omega arith), λ h. absurd (true≢false h))
-  back-two true true true false = (λ n. absurd (omega arith), λ h. absurd (true≢false h))
-  back-two true true false e = (λ n. absurd (omega arith), λ h. absurd (true≢false h))
-  back-two true false r e = (λ n. absurd (omega arith), λ h. absurd (true≢false h))
-  back-two false q r e = (λ n. refl, λ h. refl)
-
-  back-eleven : (p q r e : Bool) → momentRefusal (back p q r e .answer) ≡ 11 ↔ ((p ≡ true) × (q ≡ false))
-  back-eleven true true true true = (λ n. absurd (omega arith), λ h. absurd (true≢false (h .1)))
-  back-eleven true true true false = (λ n. absurd (omega arith), λ h. absurd (true≢false (h .1)))
-  back-eleven true true false e = (λ n. absurd (omega arith), λ h. absurd (true≢false (h .1)))
-  back-eleven true false r e = (λ n. (refl, refl), λ h. refl)
-  back-eleven false q r e = (λ n. absurd (omega arith), λ h. absurd (false≢true (h .0)))
-
-  back-seven : (p q r e : Bool) → momentRefusal (back p q r e .answer) ≡ 7 ↔ ((p ≡ true) × (q ≡ true) × (r ≡ false))
-  back-seven true true true true = (λ n. absurd (omega arith), λ h. absurd (true≢false (h .2)))
-  back-seven true true true false = (λ n. absurd (omega arith), λ h. absurd (true≢false (h .2)))
-  back-seven true true false e = (λ n. (refl, refl, refl), λ h. refl)
-  back-seven true false r e = (λ n. absurd (omega arith), λ h. absurd (false≢true (h .1)))
-  back-seven false q r e = (λ n. absurd (omega arith), λ h. absurd (false≢true (h .0)))
-
-  back-six : (p q r e : Bool) → momentRefusal (back p q r e .answer) ≡ 6 ↔ ((p ≡ true) × (q ≡ true) × (r ≡ true) × (e ≡ false))
-  back-six true true true true = (λ n. absurd (omega arith), λ h. absurd (true≢false (h .3)))
-  back-six true true true false = (λ n. (refl, refl, refl, refl), λ h. refl)
-  back-six true true false e = (λ n. absurd (omega arith), λ h. absurd (false≢true (h .2)))
-  back-six true false r e = (λ n. absurd (omega arith), λ h. absurd (false≢true (h .1)))
-  back-six false q r e = (λ n. absurd (omega arith), λ h. absurd (false≢true (h .0)))
+  -- its answer
+  back-answer : (p q r e : Bool) → back p q r e .answer ≡ answerBy 2 11 7 (roomed e) p q r
+  back-answer true true true true = refl
+  back-answer true true true false = refl
+  back-answer true true false e = refl
+  back-answer true false r e = refl
+  back-answer false q r e = refl
 
   -- a refusal leaves the words
   back-kept : (p q r e : Bool) → (momentRefusal (back p q r e .answer) ≡ 0 → ⊥) → back p q r e .words ≡ w
@@ -109,15 +103,15 @@ module _ (w names : List ℕ) (k : ℕ) where
       let q : Bool = isSet names k in
       let r : Bool = sound (sessionUnder names k) in
       let e : Bool = leb sessionLength (length w) in
-      let seven = back-seven p q r e in
-      let six = back-six p q r e in
+      let seven = exactly-third 2 11 7 (omega arith) (omega arith) (roomed e) (roomed-other e 7 (λ n. omega arith) (λ n. omega arith)) p q r in
+      let six = exactly-rest 2 11 7 (omega arith) (omega arith) (roomed e) 6 (λ n. omega arith) (λ n. omega arith) (λ n. omega arith) p q r in
       record {
-        two = back-two p q r e;
-        eleven = back-eleven p q r e;
-        seven = (λ n. let h = seven .0 n in (h .1, h .2), λ h. seven .1 (set-name names k (h .0), h .0, h .1));
-        six = (
-          λ n. let h = six .0 n in (h .1, h .2, leb-false sessionLength (length w) (h .3)),
-          λ h. six .1 (set-name names k (h .0), h .0, h .1, lt-leb sessionLength (length w) (h .2)),
+        two = rw (back-answer p q r e) (exactly-first 2 11 7 (omega arith) (omega arith) (roomed e) (roomed-other e 2 (λ n. omega arith) (λ n. omega arith)) p q r);
+        eleven = rw (back-answer p q r e) (exactly-second 2 11 7 (omega arith) (omega arith) (roomed e) (roomed-other e 11 (λ n. omega arith) (λ n. omega arith)) p q r);
+        seven = rw (back-answer p q r e) (λ n. let h = seven .0 n in (h .1, h .2), λ h. seven .1 (set-name names k (h .0), h .0, h .1));
+        six = rw (back-answer p q r e) (
+          λ n. let h = six .0 n in (h .1, h .2, leb-false sessionLength (length w) (roomed-six e .0 (h .3))),
+          λ h. six .1 (set-name names k (h .0), h .0, h .1, roomed-six e .1 (lt-leb sessionLength (length w) (h .2))),
         );
         kept = back-kept p q r e;
       }

@@ -1,4 +1,4 @@
--- The claim about whole runs (01, 'Demand 3 in full').
+-- The claim about whole runs: 01, 'Demand 3 in full', and what the requests of 02 add to it.
 use Prim.Native.Nat.{ℕ, _≤_}
 use mathlib.Core.Path.{_≡_}
 use mathlib.Core.List.{List, [], _∷_, _++_, map}
