@@ -359,7 +359,7 @@ class Session:
 
     The present session can be put under a name, a number from 1 to 8, and returned to as often as wanted. `names` has the
     words of the names, an array('I'), which may be kept, copied and set like `words`; it is None before the first naming or
-    return. Copies and pickles of a session have its names.
+    return. A deep copy or a pickle of a session has names of its own, as it has words.
 
     `sums_read` and `slots_looked` are those of the last read accepted here, 0 before it. The first is the number of sums
     read, 0 for a cold read. The second is the number of slots looked at, after any move of the marks: from the one below
