@@ -4,7 +4,7 @@
  * the reads L, the number v of different extents, then v words F (the extents by first read), v words R (by last read,
  * the latest first) and v words H (the word for d counts the reads of reuse distance d): 2 + 3 v words in all.
  *
- * A read's word is its reuse distance, 1 to 256, or for a cold read, the first of its extent, JEMQOLU_COLD_BASE plus
+ * A read's word is its reuse distance, 1 to 1,024, or for a cold read, the first of its extent, JEMQOLU_COLD_BASE plus
  * its number: how many different extents the log has had, its own included. So a log's first read has the number 1.
  *
  * Every call takes any input. A slice is a pointer and then how many elements it has; a length of 0 may come with any
@@ -32,8 +32,8 @@ extern "C" {
 enum jemqolu_refusal {
     JEMQOLU_REFUSED_LINE = 1,    /* a text line with which no text of the rule can go on, or an end too early */
     JEMQOLU_REFUSED_NUMBER = 2,  /* in a text an extent above 4,294,967,295 or a seg above 1,048,576; a word given to a
-                                    watch that is neither a distance from 1 to 256 nor a cold read of a number from 1 to
-                                    256; a store above 1,024; a number of customers that is not 1 to 8; a name that is
+                                    watch that is neither a distance from 1 to 1,024 nor a cold read of a number from 1
+                                    to 1,024; a store above 1,024; a number of customers that is not 1 to 8; a name that is
                                     not 1 to 8 */
     JEMQOLU_REFUSED_SEGS = 3,    /* the segs of a plan do not add up to the log */
     JEMQOLU_REFUSED_PLAN = 4,    /* a plan text over 65,536 bytes, a ninth join open, a seventeenth part of one join */
@@ -42,14 +42,14 @@ enum jemqolu_refusal {
     JEMQOLU_REFUSED_STATE = 7,   /* words that are not a sound session or watch, too few of them among these */
     JEMQOLU_REFUSED_READS = 8,   /* more than 1,048,576 reads would result, those of a prefix or of both sides of a join
                                     counted */
-    JEMQOLU_REFUSED_EXTENTS = 9, /* more than 256 different extents would result, counted so too */
+    JEMQOLU_REFUSED_EXTENTS = 9, /* more than 1,024 different extents would result, counted so too */
     JEMQOLU_REFUSED_SHARES = 10, /* the least shares add up to more than the store */
     JEMQOLU_REFUSED_NAME = 11    /* a return to a name that is not set */
 };
 
 /* The limits. */
 #define JEMQOLU_MAX_READS 1048576    /* of a log */
-#define JEMQOLU_MAX_EXTENTS 256      /* different ones in a log */
+#define JEMQOLU_MAX_EXTENTS 1024     /* different ones in a log */
 #define JEMQOLU_MAX_PLAN_BYTES 65536 /* of a plan's text; a log's text has no limit */
 #define JEMQOLU_MAX_JOINS 8          /* open at once in a plan */
 #define JEMQOLU_MAX_PARTS 16         /* of one join of a plan */
@@ -62,14 +62,14 @@ enum jemqolu_refusal {
 #define JEMQOLU_COLD_BASE 65536 /* a cold read is written as this plus its number */
 
 /* Lengths that always suffice, and the exact ones of a session, a watch and the names. */
-#define JEMQOLU_SUMMARY_WORDS 770  /* 2 + 3 * 256: any summary */
-#define JEMQOLU_LEVEL_WORDS 1540   /* the work words for each join open at once where a plan is deepest */
-#define JEMQOLU_WORK_WORDS 12320   /* 1,540 * 8: any plan */
-#define JEMQOLU_LISTING_BYTES 8192 /* any listing */
-#define JEMQOLU_SESSION_WORDS 2049 /* a session */
-#define JEMQOLU_WATCH_WORDS 4      /* a watch */
-#define JEMQOLU_NAME_WORDS 2050    /* 1 + 2,049: the place of a name; the names 1 to k need k times as many */
-#define JEMQOLU_NAMES_WORDS 16400  /* 2,050 * 8: all names */
+#define JEMQOLU_SUMMARY_WORDS 3074  /* 2 + 3 * 1,024: any summary */
+#define JEMQOLU_LEVEL_WORDS 6148    /* the work words for each join open at once where a plan is deepest */
+#define JEMQOLU_WORK_WORDS 49184    /* 6,148 * 8: any plan */
+#define JEMQOLU_LISTING_BYTES 20480 /* any listing */
+#define JEMQOLU_SESSION_WORDS 8193  /* a session */
+#define JEMQOLU_WATCH_WORDS 4       /* a watch */
+#define JEMQOLU_NAME_WORDS 8194     /* 1 + 8,193: the place of a name; the names 1 to k need k times as many */
+#define JEMQOLU_NAMES_WORDS 65552   /* 8,194 * 8: all names */
 #define JEMQOLU_STACK_BYTES 73728  /* the stack of any call, beside what the thread and the caller use of it */
 
 /* The summary of a list of reads, a whole part in one call.
@@ -118,7 +118,7 @@ int64_t jemqolu_split(uint32_t store, const uint32_t *leasts, size_t leasts_len,
  */
 
 /* A joining plan carried out on a log: the log's summary, its parts summarized and joined as the plan's text says.
- * Lent: the plan's text; the log; `work`, 1,540 words for each join that is open at once where the plan is deepest, which
+ * Lent: the plan's text; the log; `work`, 6,148 words for each join that is open at once where the plan is deepest, which
  * are 0 afterwards; `out`, as many words as the summary has. Answer: the words written.
  * Refusals, in order: -4 for the text's length; the earliest faulty line's, on one line -1, -2, -4; then -3, -8, -9, -6. */
 int64_t jemqolu_plan(const uint8_t *text, size_t text_len, const uint32_t *log, size_t log_len,
@@ -129,21 +129,21 @@ int64_t jemqolu_plan(const uint8_t *text, size_t text_len, const uint32_t *log, 
  * Refusals: the earliest faulty line's, on one line -1, -2, -8, -9; then -6. */
 int64_t jemqolu_list(const uint8_t *text, size_t text_len, uint8_t *out, size_t out_len);
 
-/* A session is 2,049 words with the caller, who may keep and copy them:
+/* A session is 8,193 words with the caller, who may keep and copy them:
  *   word 0            L, the reads accepted
- *   words 1..256      F, the extents by first read, 0 after them
- *   words 257..512    H, word 256 + d counts the reads of distance d
- *   words 513..1024   512 slots: an extent stands in the slot of its last read, 0 in the others
- *   words 1025..2047  1,023 sums: 512 leaves, 1 for a marked slot; the parent of p is 512 + p / 2; the last is the root
- *   word 2048         the next slot
+ *   words 1..1024     F, the extents by first read, 0 after them
+ *   words 1025..2048  H, word 1,024 + d counts the reads of distance d
+ *   words 2049..4096  2,048 slots: an extent stands in the slot of its last read, 0 in the others
+ *   words 4097..8191  4,095 sums: 2,048 leaves, 1 for a marked slot; the parent of p is 2,048 + p / 2; the last is the root
+ *   word 8192         the next slot
  * Words lent past these are neither read nor written.
  * Each call on a session copies its 8 KB and tests all of it: 2 to 3 microseconds a read, however few extents it has, where
  * jemqolu_summarize and jemqolu_distances take 0.003 to 0.04 a read. Whoever has a list of reads calls those. */
 
-/* A new session. Lent: 2,049 words. Answer: 2,049. Refusal: -6. */
+/* A new session. Lent: 8,193 words. Answer: 8,193. Refusal: -6. */
 int64_t jemqolu_session_new(uint32_t *session, size_t session_len);
 
-/* One more read. Where the next slot is 512, the v extents first move, in order, to the slots 0 to v - 1, and the next
+/* One more read. Where the next slot is 2,048, the v extents first move, in order, to the slots 0 to v - 1, and the next
  * slot becomes v. The slots looked at are those from the one below the next slot down to the extent's own: 1 where the
  * read before was of the same extent. A cold read looks at all below the next slot.
  * Lent: the session, which is changed there; two words, both set by an accepted read: `*sums_read` to the number of sums
@@ -165,14 +165,14 @@ int64_t jemqolu_session_share(const uint32_t *session, size_t session_len, uint3
 
 /* Names for moments: a name, 1 to 8, stands for the session as it was when it was named. After a return to it the session's
  * log is the one of that moment, followed by what is read after the return, as often as one returns. All answers and the
- * summary are those of this log, whatever else was called. Names are 8 places of 2,050 words each with the caller, who may
- * keep and copy them; the place of name k starts at word (k - 1) * 2,050:
+ * summary are those of this log, whatever else was called. Names are 8 places of 8,194 words each with the caller, who may
+ * keep and copy them; the place of name k starts at word (k - 1) * 8,194:
  *   its word 0         whether the name is set: 0 where it is not, any other number where it is
- *   its words 1..2049  the session under the name
- * Of fewer words than all 16,400, the names whose places lie within them can be used. Words past these are neither read nor
+ *   its words 1..8193  the session under the name
+ * Of fewer words than all 65,552, the names whose places lie within them can be used. Words past these are neither read nor
  * written. A naming and a return take no longer than a read. */
 
-/* Names of which none is set. Lent: 16,400 words, which become 0. Answer: 16,400. Refusal: -6. */
+/* Names of which none is set. Lent: 65,552 words, which become 0. Answer: 65,552. Refusal: -6. */
 int64_t jemqolu_names_new(uint32_t *names, size_t names_len);
 
 /* The present session put under a name, in place of what was there; the name's word 0 becomes 1.
@@ -182,7 +182,7 @@ int64_t jemqolu_session_name(const uint32_t *session, size_t session_len,
                              uint32_t *names, size_t names_len, uint32_t name);
 
 /* A return to the session under a name. No name is forgotten.
- * Lent: the session, 2,049 words, whose contents make no difference; the names. Answer: 0.
+ * Lent: the session, 8,193 words, whose contents make no difference; the names. Answer: 0.
  * Refusals, in order: -2, -11 where the name is not set in these words (a place that does not lie within them is
  * not), -7 for the session under the name, -6. */
 int64_t jemqolu_session_return(uint32_t *session, size_t session_len,
@@ -194,8 +194,8 @@ int64_t jemqolu_session_return(uint32_t *session, size_t session_len,
 /* A new watch on a size. Lent: 4 words. Answer: 4. Refusal: -6. */
 int64_t jemqolu_watch_new(uint32_t size, uint32_t *watch, size_t watch_len);
 
-/* One more read's word, as jemqolu_session_read answers and jemqolu_distances writes it: a distance from 1 to 256, or
- * for a cold read JEMQOLU_COLD_BASE plus a number from 1 to 256, which makes no difference.
+/* One more read's word, as jemqolu_session_read answers and jemqolu_distances writes it: a distance from 1 to 1,024,
+ * or for a cold read JEMQOLU_COLD_BASE plus a number from 1 to 1,024, which makes no difference.
  * Lent: the watch, which is changed there. Answer: 0. Refusals, in order: -7, -2, -8. */
 int64_t jemqolu_watch_read(uint32_t *watch, size_t watch_len, uint32_t word);
 

@@ -8,7 +8,7 @@ ghost use Rattle.listing_rows.specs.Laying.{laidAt, layAll};
 ghost use Rattle.listing_pages.specs.Texts.{rowsPieces, listingPieces, refusedPieces, pageOf};
 
 // The bytes of a page.
-pub const PAGE_BYTES: usize = 8192;
+pub const PAGE_BYTES: usize = 20480;
 
 // A page of output: its first `len` bytes are the text.
 pub struct Page {

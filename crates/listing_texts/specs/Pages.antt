@@ -13,7 +13,7 @@ use Rattle.listing_texts.specs.Tallies.{missesBy}
 
 -- the bytes of a page
 abbrev pub pageBytes : ℕ
-pageBytes = 8_192
+pageBytes = 20_480
 
 -- more bytes than the row of any size has
 abbrev pub rowRoom : ℕ

@@ -7,19 +7,19 @@ maxReads = 1_048_576
 
 -- the most different extents of a trace
 abbrev pub maxExtents : ℕ
-maxExtents = 256
+maxExtents = 1_024
 
 -- the slots of a session
 abbrev pub slotCount : ℕ
-slotCount = 512
+slotCount = 2_048
 
 -- the sums of a session: a full binary tree over its slots
 abbrev pub sumCount : ℕ
-sumCount = 1_023
+sumCount = 4_095
 
 -- the levels of that tree above its leaves, as many as a slot's number has binary digits
 abbrev pub levels : ℕ
-levels = 9
+levels = 11
 
 -- the largest store that is split among customers
 abbrev pub maxStore : ℕ

@@ -5,13 +5,13 @@ ghost use Rattle.reuse.specs.Limits.{maxReads, maxExtents, slotCount, su
 // The most reads of a trace.
 pub const MAX_READS: u32 = 1048576;
 // The most different extents of a trace.
-pub const MAX_EXTENTS: usize = 256;
+pub const MAX_EXTENTS: usize = 1024;
 // The slots of a session.
-pub const SLOTS: usize = 512;
+pub const SLOTS: usize = 2048;
 // The sums of a session: a full binary tree over its slots.
-pub const SUMS: usize = 1023;
+pub const SUMS: usize = 4095;
 // The levels of that tree above its leaves.
-pub const LEVELS: u32 = 9;
+pub const LEVELS: u32 = 11;
 // A cold read is written as this plus its number.
 pub const COLD_BASE: u32 = 65536;
 // The largest store that is split among customers.

@@ -52,10 +52,10 @@ impl Session {
     {
         Session {
             reads: 0,
-            first: [0; 256],
-            hist: [0; 256],
-            slots: [0; 512],
-            sums: [0; 1023],
+            first: [0; 1024],
+            hist: [0; 1024],
+            slots: [0; 2048],
+            sums: [0; 4095],
             next: 0,
         }
     }

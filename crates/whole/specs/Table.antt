@@ -107,10 +107,10 @@ abbrev pub CallsAre : List Call → List (Told Seen) → Type 0
 CallsAre calls answers = (names : List ℕ) → Unset names → lies (length names) 1 ≡ true → map heard (toldBy (begun names) calls) ≡ answers
 
 pub record Table : Type 0 where
-  -- 7 3 7 9 3 3 9: cold 1, cold 2, 2, cold 3, 3, 1, 2; sums read 0 0 9 0 8 8 7; slots looked at 0 1 2 3 3 1 3
+  -- 7 3 7 9 3 3 9: cold 1, cold 2, 2, cold 3, 3, 1, 2; sums read 0 0 11 0 10 10 9; slots looked at 0 1 2 3 3 1 3
   pub reads-called : answersOf fresh seven
-      ≡ Cold 1 0 ∷ Cold 2 1 ∷ Distance 2 9 2 ∷ Cold 3 3 ∷ Distance 3 8 3 ∷ Distance 1 8 1 ∷ Distance 2 7 3 ∷ []
-  pub sums-called : map sumsRead (answersOf fresh seven) ≡ 0 ∷ 0 ∷ 9 ∷ 0 ∷ 8 ∷ 8 ∷ 7 ∷ []
+      ≡ Cold 1 0 ∷ Cold 2 1 ∷ Distance 2 11 2 ∷ Cold 3 3 ∷ Distance 3 10 3 ∷ Distance 1 10 1 ∷ Distance 2 9 3 ∷ []
+  pub sums-called : map sumsRead (answersOf fresh seven) ≡ 0 ∷ 0 ∷ 11 ∷ 0 ∷ 10 ∷ 10 ∷ 9 ∷ []
   pub looked-called : map slotsLooked (answersOf fresh seven) ≡ 0 ∷ 1 ∷ 2 ∷ 3 ∷ 3 ∷ 1 ∷ 3 ∷ []
   pub looked-defined : lookedAlong fresh seven
       ≡ [] ∷ (0 ∷ []) ∷ (1 ∷ 0 ∷ []) ∷ (2 ∷ 1 ∷ 0 ∷ []) ∷ (3 ∷ 2 ∷ 1 ∷ []) ∷ (4 ∷ []) ∷ (5 ∷ 4 ∷ 3 ∷ []) ∷ []
