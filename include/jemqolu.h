@@ -65,7 +65,7 @@ enum jemqolu_refusal {
 #define JEMQOLU_SUMMARY_WORDS 3074  /* 2 + 3 * 1,024: any summary */
 #define JEMQOLU_LEVEL_WORDS 6148    /* the work words for each join open at once where a plan is deepest */
 #define JEMQOLU_WORK_WORDS 49184    /* 6,148 * 8: any plan */
-#define JEMQOLU_LISTING_BYTES 20480 /* any listing */
+#define JEMQOLU_LISTING_BYTES 23616 /* 64 + 23 * 1,024: any listing */
 #define JEMQOLU_SESSION_WORDS 8193  /* a session */
 #define JEMQOLU_WATCH_WORDS 4       /* a watch */
 #define JEMQOLU_NAME_WORDS 8194     /* 1 + 8,193: the place of a name; the names 1 to k need k times as many */

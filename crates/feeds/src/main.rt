@@ -1,4 +1,4 @@
-// Feeds log texts to the lister byte by byte and in every cutting into two or three pieces.
+// Feeds log texts to the lister byte by byte, and in cuttings into two or three pieces.
 mod long;
 mod pieces;
 mod report;

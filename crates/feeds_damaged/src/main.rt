@@ -120,7 +120,7 @@ fn main() {
     fed(b"byte 10 held", 10, 1, inside, 1, 1, 0, 0);
     fed(b"20 bytes held", 0, 20, inside, 1, 1, 0, 0);
     fed(b"a byte past those held", 65, 0, inside, 1, 1, 0, 0);
-    fed(b"257 extents", 0, 0, inside, 257, 257, 0, 0);
+    fed(b"1,025 extents", 0, 0, inside, 1025, 1025, 0, 0);
     fed(b"an extent twice", 0, 0, inside, 2, 2, 7, 0);
     fed(b"a read not counted", 0, 0, inside, 2, 1, 0, 0);
     fed(b"a word past the stack", 0, 0, inside, 1, 1, 9, 0);

@@ -7,8 +7,14 @@ ghost use Rattle.listing_texts.specs.Pages.{AddsUp, pageText};
 ghost use Rattle.listing_rows.specs.Laying.{laidAt, layAll};
 ghost use Rattle.listing_pages.specs.Texts.{rowsPieces, listingPieces, refusedPieces, pageOf};
 
+// More bytes than the lines before the sizes' rows have.
+const HEAD_ROOM: usize = 64;
+
+// As many bytes as the row of any size has.
+const ROW_ROOM: usize = 23;
+
 // The bytes of a page.
-pub const PAGE_BYTES: usize = 20480;
+pub const PAGE_BYTES: usize = HEAD_ROOM + ROW_ROOM * reuse::MAX_EXTENTS;
 
 // A page of output: its first `len` bytes are the text.
 pub struct Page {

@@ -10,29 +10,34 @@ use Rattle.reuse.specs.Lru.{isCold, isAbove, reuses, missesAt}
 use Rattle.reuse.proofs.Counts.{count-le}
 use Rattle.reuse.proofs.Sums.{sum-drop-le}
 use Rattle.reuse.proofs.Stack.{length-reuses}
-use Rattle.texts.specs.Digits.{tooLong}
+use Rattle.texts.specs.Digits.{decimal, tooLong}
 use Rattle.texts.specs.Lines.{got}
 use Rattle.texts.specs.Logs.{logOf, Within}
-use Rattle.texts.proofs.Numbers.{decimal-length}
+use Rattle.texts.proofs.Numbers.{ten, length-by, decimal-length}
 use Rattle.texts.proofs.LogSound.{sound}
 use Rattle.listing_texts.specs.Listings.{coldRow, atRows, listed, refusedText, sizesOf, listingOf}
 use Rattle.listing_texts.specs.Tallies.{missesBy}
-use Rattle.listing_texts.specs.Pages.{rowRoom, pageBytes, AddsUp}
+use Rattle.listing_texts.specs.Pages.{headRoom, sizeDigits, rowRoom, pageBytes, AddsUp}
 use Rattle.listing_texts.proofs.RowLaws.{rowAt, rows-cons}
 use Rattle.listing_texts.proofs.Listings.{listing-read}
 
+-- the digits of a size
+size-length : (c : ℕ) → c ≤ maxExtents → length (decimal c) ≤ sizeDigits
+unfolding ten
+size-length c h = length-by 3 c (omega arith)
+
 -- a row's length
-row-length : (c n rows : ℕ) → c < tooLong → n < tooLong → length (rowAt c n rows) ≤ rowRoom
-row-length c n zero h g = simp length-append (omega (arith, decimal-length c h, decimal-length n g))
-row-length c n (suc k) h g = simp length-append (omega (arith, decimal-length c h, decimal-length n g))
+row-length : (c n rows : ℕ) → c ≤ maxExtents → n < tooLong → length (rowAt c n rows) ≤ rowRoom
+row-length c n zero h g = simp length-append (omega (arith, size-length c h, decimal-length n g))
+row-length c n (suc k) h g = simp length-append (omega (arith, size-length c h, decimal-length n g))
 
 -- that of the row of the cold reads
-cold-length : (n : ℕ) → n < tooLong → length (coldRow n) ≤ rowRoom
-cold-length zero h = simp length-append (omega (arith, decimal-length 0 h))
-cold-length (suc n) h = simp length-append (omega (arith, decimal-length (suc n) h))
+cold-length : (n : ℕ) → n ≤ maxExtents → length (coldRow n) ≤ 10 + sizeDigits
+cold-length zero h = simp length-append (omega (arith, size-length 0 h))
+cold-length (suc n) h = simp length-append (omega (arith, size-length (suc n) h))
 
 -- that of so many rows
-rows-length : (m : ℕ → ℕ) → ((d : ℕ) → m d < tooLong) → (k c : ℕ) → c + k ≤ tooLong → length (atRows m c k) ≤ rowRoom * k
+rows-length : (m : ℕ → ℕ) → ((d : ℕ) → m d < tooLong) → (k c : ℕ) → c + k ≤ suc maxExtents → length (atRows m c k) ≤ rowRoom * k
 unfolding atRows
 rows-length m h zero c g = omega arith
 rows-length m h (suc k) c g =

@@ -1,6 +1,6 @@
 -- Pages of output: their bytes, the end of a row, and the text of the page of a listing.
 use mathlib.Core.Path.{_≡_}
-use Prim.Native.Nat.{ℕ, zero, suc, _+_, _≤_}
+use Prim.Native.Nat.{ℕ, zero, suc, _+_, _*_, _≤_}
 use mathlib.Core.List.{List, [], _∷_, _++_}
 use mathlib.Core.Bool.{cond, _&&_}
 use lib.Dec.{eqb, leb}
@@ -11,13 +11,21 @@ use Rattle.texts.specs.Words.{close}
 use Rattle.listing_texts.specs.Listings.{listed, refusedText}
 use Rattle.listing_texts.specs.Tallies.{missesBy}
 
--- the bytes of a page
-abbrev pub pageBytes : ℕ
-pageBytes = 20_480
+-- more bytes than the rows of the reads and of the cold reads have, with the line before them
+abbrev pub headRoom : ℕ
+headRoom = 64
 
--- more bytes than the row of any size has
+-- the most digits of a size
+abbrev pub sizeDigits : ℕ
+sizeDigits = 4
+
+-- as many bytes as the row of any size has, with ten digits for its misses
 abbrev pub rowRoom : ℕ
-rowRoom = 30
+rowRoom = 19 + sizeDigits
+
+-- the bytes of a page: room for the row of each size
+abbrev pub pageBytes : ℕ
+pageBytes = headRoom + rowRoom * maxExtents
 
 -- how many brackets close a row that so many rows follow: the last row closes the listing too
 abbrev pub rowCloses : ℕ → ℕ

@@ -6,7 +6,7 @@ use native.Mathlib.Numerals.{add-one}
 use mathlib.Core.List.{List, [], _∷_, _++_, append-assoc, append-nil}
 use mathlib.Core.Bool.{true, false}
 use lib.Dec.{eqb}
-use lib.ListN.{length, take, drop, getD, set, replicate, drop-of-length-le, take-append-drop, length-set, length-append}
+use lib.ListN.{length, take, drop, getD, set, replicate, drop-of-length-le, take-append-drop, length-set, length-append, length-replicate}
 use lib.Seq.{take-suc, take-all, take-suc-set, length-take-le}
 use borrow.Author.Tests.{eqb-true, eqb-false}
 use Rattle.reuse.specs.Limits.{maxExtents}
@@ -128,7 +128,12 @@ module _ (l words held table : List ℕ) (n i : ℕ) (h : Counting l words held 
 -- nothing is held
 pub held-none : Held (replicate maxExtents 0) (replicate tablePlaces 0) 0
 unfolding distinct
-held-none = record { long = refl; fits = omega arith; once = refl; notes = notes-start (replicate tablePlaces 0) refl }
+held-none = record {
+  long = length-replicate {A = ℕ} maxExtents 0;
+  fits = omega arith;
+  once = refl;
+  notes = notes-start (replicate tablePlaces 0) (length-replicate {A = ℕ} tablePlaces 0);
+}
 
 module _ (a b held table : List ℕ) (n : ℕ) (h : Counted [] a held table n) where
   -- the first trace alone has more than the limit

@@ -7,7 +7,7 @@ use native.Mathlib.Decide.{ℕ-discrete}
 use mathlib.Core.List.{List, [], _∷_, _++_, append-assoc, append-nil}
 use mathlib.Core.Bool.{true, false, _||_, or-false}
 use lib.Dec.{eqb}
-use lib.ListN.{length, take, drop, getD, set, replicate, drop-of-length-le, take-append-drop, length-take, length-set}
+use lib.ListN.{length, take, drop, getD, set, replicate, drop-of-length-le, take-append-drop, length-take, length-set, length-replicate}
 use lib.Seq.{take-suc, take-all, getD-take, getD-set-same, getD-set-other}
 use borrow.Author.Tests.{eq-eqb, ne-eqb, eqb-true, eqb-false}
 use Rattle.reuse.specs.Limits.{maxExtents}
@@ -61,7 +61,7 @@ notes-from (x ∷ xs) l table n u =
 hints-notes : (words : List ℕ) → Notes (hintsOf words) (take maxExtents words)
 unfolding hintsOf
 hints-notes words =
-    notes-from (take maxExtents words) [] (replicate tablePlaces 0) 0 (notes-start (replicate tablePlaces 0) refl)
+    notes-from (take maxExtents words) [] (replicate tablePlaces 0) 0 (notes-start (replicate tablePlaces 0) (length-replicate {A = ℕ} tablePlaces 0))
 
 module _ (words : List ℕ) (p x : ℕ) where
   -- the table has no word

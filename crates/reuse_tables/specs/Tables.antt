@@ -8,9 +8,9 @@ use lib.ListN.{length, take, drop, getD, set, replicate}
 use Rattle.reuse.specs.Limits.{maxExtents}
 use Rattle.reuse.specs.Lists.{mem, distinct, firsts}
 
--- the places of a table
+-- the places of a table: sixteen for each word within the limit
 abbrev pub tablePlaces : ℕ
-tablePlaces = 4_096
+tablePlaces = 16 * maxExtents
 
 -- what a word is multiplied by, so that the multiples of a power of two spread over the places
 abbrev pub tableFactor : ℕ

@@ -9,8 +9,8 @@ ghost use Rattle.reuse.specs.Lists.{mem, allIn, beside, distinct, firsts};
 ghost use Rattle.reuse_rows.specs.Rows.{padded};
 ghost use Rattle.reuse_tables.specs.Tables.{tablePlaces, bucketOf, hintsOf, standsBy, lookedUp, Held, Counted};
 
-// The places of a table.
-const PLACES: usize = 4096;
+// The places of a table: sixteen for each word.
+const PLACES: usize = 16 * MAX_EXTENTS;
 
 // What a word is multiplied by, so that the multiples of a power of two spread over the places.
 const FACTOR: u64 = 2654435761;

@@ -52,12 +52,12 @@ by-digits P one two n = upto n n (omega arith)
         rw (decimal-long n s) (two (decimal (n / 10)) ((48 + n % 10) ∷ []) (upto k (n / 10) (omega arith)) (one (n % 10) (omega arith))))
 
 -- ten times itself, k times
-ten : ℕ → ℕ
+pub ten : ℕ → ℕ
 ten zero = 1
 ten (suc k) = ten k * 10
 
 -- below that, at most as many digits
-length-by : (k n : ℕ) → n < ten (suc k) → length (decimal n) ≤ suc k
+pub length-by : (k n : ℕ) → n < ten (suc k) → length (decimal n) ≤ suc k
 unfolding ten
 length-by zero n h = rw (decimal-short n (omega arith)) (omega arith)
 length-by (suc k) n h =

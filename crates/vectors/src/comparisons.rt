@@ -1,5 +1,5 @@
 // Logs read by sessions and by simulated caches of several sizes: a read is a hit exactly if its distance is at most the size.
-ghost use Prim.Native.Nat.{_≤_};
+ghost use Prim.Native.Nat.{_<_};
 use crate::cache;
 use crate::count::Count;
 use crate::logs;
@@ -8,11 +8,14 @@ use reuse::MAX_EXTENTS;
 use session::Answer;
 use session::Session;
 
-// How many logs there are; log k has ten times k reads.
-const LOGS: usize = 120;
+// How many logs there are.
+const LOGS: usize = 24;
+
+// Log k has so many times k reads.
+const LONGER: usize = 130;
 
 // More reads than the longest log has.
-const READS: usize = 1200;
+const READS: usize = LOGS * LONGER;
 
 // How many sizes there are.
 const SIZES: usize = 16;
@@ -54,7 +57,7 @@ fn at_size(log: &[u32], size: u32, so_far: Count) -> Count {
 
 // Log k at every size.
 fn one(k: usize, so_far: Count) -> Count
-    requires { ⌜ k ≤ 120 ⌝ }
+    requires { ⌜ k < 24 ⌝ }
 {
     let sizes = [
         0u32,
@@ -65,18 +68,18 @@ fn one(k: usize, so_far: Count) -> Count
         8,
         13,
         21,
-        34,
         55,
-        89,
         144,
-        200,
-        255,
         256,
+        512,
+        1000,
+        1023,
+        1024,
         u32::MAX,
     ];
     let mut log = [0u32; READS];
     logs::fill(&mut log, k as u64);
-    let reads = k * 10;
+    let reads = k * LONGER;
     let mut c = so_far;
     for i in 0..SIZES {
         c = at_size(&log[0..reads], words::get(&sizes, i), c);

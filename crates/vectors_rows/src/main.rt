@@ -58,18 +58,18 @@ fn row(call: &[u8], step: Step) -> Session {
 // All rows.
 fn main() {
     let one = after(SLOTS as u32 - 1, 1);
-    let moved = row(b"one extent, read 512", one.read(0));
-    row(b"one extent, read 513", moved.read(0));
+    let moved = row(b"one extent, read 2,048", one.read(0));
+    row(b"one extent, read 2,049", moved.read(0));
     let last_new = after(MAX_EXTENTS as u32 - 1, MAX_EXTENTS as u32 - 1);
-    let full = row(b"the 256th extent", last_new.read(MAX_EXTENTS as u32 - 1));
-    let known = row(b"256 extents, then a known one", full.read(0));
-    row(b"256 extents, then another", known.read(MAX_EXTENTS as u32));
+    let full = row(b"the 1,024th extent", last_new.read(MAX_EXTENTS as u32 - 1));
+    let known = row(b"1,024 extents, then a known one", full.read(0));
+    row(b"1,024 extents, then another", known.read(MAX_EXTENTS as u32));
     let twice = after(SLOTS as u32, MAX_EXTENTS as u32);
     let kept = row(
-        b"256 extents twice, then another",
+        b"1,024 extents twice, then another",
         twice.read(MAX_EXTENTS as u32),
     );
-    row(b"256 extents twice, then a known one", kept.read(0));
+    row(b"1,024 extents twice, then a known one", kept.read(0));
     let most = after(MAX_READS - 1, 1);
     let last = row(b"read 1,048,576", most.read(0));
     row(b"the next", last.read(0));

@@ -7,6 +7,7 @@ pub mod Groupings
 pub mod Plans
 pub mod Prefixes
 pub mod Looks
+pub mod Moves
 pub mod Counts
 pub mod HitShares
 pub mod Splits

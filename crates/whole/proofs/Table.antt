@@ -103,6 +103,8 @@ room-for-one = names-lie namesLength (omega arith) 1 refl
 pub table : Table
 unfolding distances distance since afterCall answersOf sessionAfter stateAfter grouped summaryCall sessionWords wrote joinCall missesCall shareCall shareOf wellFormed words summaryOf histogram joinOf joinedFirst joinedRecent joinedCounts joinedCount countFor shared across hitsOf missesOf servableOf readsOf extentsOf firstOf recentOf countsOf mem allIn distinct remove inside outside before firsts cleanup from sum count countAt reuses touch cacheMisses cacheHits hitCount servable hits admit evict oldest lastRead readOf sound soundRows extents firstRow same blank marks sumsOf pairs tidy stackOf marked roomed gathered slotOf slotFrom taken tooMany depth moved entered zeros lookedAlong lookedAt lookedBelow
 table = record {
+  sizes-defined = (refl, refl, refl, refl, refl);
+  work-defined = λ p. refl;
   reads-called = refl;
   sums-called = refl;
   looked-called = refl;

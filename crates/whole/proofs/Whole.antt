@@ -11,6 +11,7 @@ use Rattle.reuse.proofs.Cache.{cache-law}
 use Rattle.reuse.proofs.Formed.{formed}
 use Rattle.reuse.proofs.Newcomers.{trace-numbers}
 use Rattle.reuse.proofs.Prefixes.{prefix-newcomer, prefix-numbers}
+use Rattle.reuse.proofs.Traces.{within-front}
 use Rattle.session.specs.declared.Answer.{Answer}
 use Rattle.session.specs.declared.Answer.the-variants.{Cold, Distance, Refused}
 use Rattle.session.specs.Sessions.{fresh}
@@ -34,6 +35,7 @@ use Rattle.whole.proofs.Prefixes.{cutting-outcome}
 use Rattle.watch_words.proofs.Fed.{taking}
 use Rattle.split_calls.proofs.Refusals.{refusals}
 use Rattle.whole.proofs.Looks.{looked-along, log-looks}
+use Rattle.whole.proofs.Moves.{first-move}
 use Rattle.whole.proofs.Counts.{counts}
 use Rattle.whole.proofs.HitShares.{serves, hit-shares, any-hit-shares}
 use Rattle.whole.proofs.Splits.{splits}
@@ -81,6 +83,7 @@ runs t w = record {
   growth = trace-numbers t;
   slots-looked = looked-along t fresh [] fresh-stands w;
   reads-look = λ earlier later x e. log-looks earlier later x (rw e w);
+  first-move = λ earlier later e. first-move earlier (within-front earlier later (rw e w));
   uncut-summary = λ buffer. session-outcome (sessionAfter fresh t) t buffer (trace-stands t w);
   groupings = groupings t w;
   plans = plan-outcome t w;

@@ -39,6 +39,7 @@ use Rattle.whole.specs.Groupings.{AllUnset, Grouping, parts, logOf, grou
 use Rattle.split_calls.specs.Refusals.{Refusals}
 use Rattle.whole.specs.Newcomers.{Newcomers}
 use Rattle.whole.specs.Looks.{lookedAlong, Looked}
+use Rattle.whole.specs.Moves.{FirstMove}
 use Rattle.whole.specs.Counts.{Counts}
 use Rattle.whole.specs.HitShares.{Serves, HitShares, AnyHitShares}
 use Rattle.whole.specs.Splits.{Customers, Splits}
@@ -62,6 +63,8 @@ pub record Claims (t : List ℕ) : Type 0 where
   pub slots-looked : map slotsLooked (answersOf fresh t) ≡ map length (lookedAlong fresh t)
   -- those from the newest down to the extent's own mark, or all below next; one for a read of the extent read last
   pub reads-look : (earlier later : List ℕ) (x : ℕ) → earlier ++ (x ∷ later) ≡ t → Looked earlier x
+  -- the first read that moves the marks is the one after as many reads as there are slots
+  pub first-move : (earlier later : List ℕ) → earlier ++ later ≡ t → FirstMove earlier
   -- its summary is the log's
   pub uncut-summary : (buffer : List ℕ) →
       outcome (summaryCall (sessionAfter fresh t) buffer) ≡ cond (roomFor t buffer) (gives (summaryOf t)) (refused 6)

@@ -8,6 +8,7 @@ pub mod Groupings
 pub mod Cuttings
 pub mod Newcomers
 pub mod Looks
+pub mod Moves
 pub mod Counts
 pub mod HitShares
 pub mod Splits

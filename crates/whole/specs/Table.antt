@@ -1,11 +1,12 @@
--- The rows that 01 marks with a star, and 02's of newcomers, of slots looked at, of hit shares and of named moments. Each has two halves: what the calls answer, and what the log's own definitions give.
-use Prim.Native.Nat.{ℕ}
+-- The rows that 01 marks with a star, and 02's of newcomers, of slots looked at, of hit shares, of named moments and of sizes. Each has two halves: what the calls answer, and what the log's own definitions give.
+use Prim.Native.Nat.{ℕ, _*_, _^_}
 use mathlib.Core.Path.{_≡_}
 use mathlib.Core.List.{List, [], _∷_, _++_, map}
 use mathlib.Core.Bool.{true, false}
 use lib.IntN.{negsuc}
 use lib.Ieee.{binary64, fin, round}
 use lib.ListN.{length, replicate}
+use Rattle.reuse.specs.Limits.{maxExtents, slotCount, sumCount, levels}
 use Rattle.reuse.specs.Lru.{cold, at, reuses, distances}
 use Rattle.reuse.specs.Written.{wordOf}
 use Rattle.reuse.specs.Cache.{cacheMisses}
@@ -16,6 +17,8 @@ use Rattle.summary_calls.specs.declared.HitShare.the-variants.{Share, NoReads}
 use Rattle.summary_calls.specs.declared.ShareAnswer.the-variants.{Answered}
 use Rattle.summary_calls.specs.Calls.{joinCall, missesCall, shareCall}
 use Rattle.after.specs.Calls.{afterCall}
+use Rattle.texts.specs.Plans.{Plan, depth}
+use Rattle.plan_calls.specs.Calls.{workWords}
 use Rattle.session.specs.declared.Answer.the-variants.{Cold, Distance}
 use Rattle.session.specs.Sessions.{fresh}
 use Rattle.session.specs.Reads.{sumsRead, slotsLooked}
@@ -107,6 +110,10 @@ abbrev pub CallsAre : List Call → List (Told Seen) → Type 0
 CallsAre calls answers = (names : List ℕ) → Unset names → lies (length names) 1 ≡ true → map heard (toldBy (begun names) calls) ≡ answers
 
 pub record Table : Type 0 where
+  -- 1,024 extents, 2,048 slots, 4,095 sums, slot numbers of eleven binary digits
+  pub sizes-defined : (maxExtents ≡ 1_024) × (slotCount ≡ 2_048) × (sumCount ≡ 4_095) × (slotCount ≡ 2 ^ 11) × (levels ≡ 11)
+  -- a plan of depth k needs 6,148k work words
+  pub work-defined : (p : Plan) → workWords p ≡ 6_148 * depth p
   -- 7 3 7 9 3 3 9: cold 1, cold 2, 2, cold 3, 3, 1, 2; sums read 0 0 11 0 10 10 9; slots looked at 0 1 2 3 3 1 3
   pub reads-called : answersOf fresh seven
       ≡ Cold 1 0 ∷ Cold 2 1 ∷ Distance 2 11 2 ∷ Cold 3 3 ∷ Distance 3 10 3 ∷ Distance 1 10 1 ∷ Distance 2 9 3 ∷ []
