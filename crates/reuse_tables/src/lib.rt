@@ -27,25 +27,25 @@ fn bucket(x: u32) -> usize
 
 // For each place of a table, which word was the last to fall there, 1 for the first word; 0 where none did.
 // Words past the limit of extents are not noted.
-fn hints(words: &[u32]) -> [u32; PLACES]
+fn hints(words: &[u32]) -> [u16; PLACES]
     ensures { λ r. ⌜ r ≡ hintsOf (now (words .entry)) ⌝ }
 {
     let mut n = words.len();
     if MAX_EXTENTS < n {
         n = MAX_EXTENTS;
     }
-    let mut table = [0u32; PLACES];
+    let mut table = [0u16; PLACES];
     let mut i: usize = 0;
     while i < n {
         let h = bucket(words[i]);
         i = i + 1;
-        table[h] = i as u32;
+        table[h] = i as u16;
     }
     table
 }
 
 // Whether x stands among the words, by the table that `hints` makes of them.
-fn known(words: &[u32], hints: &[u32; PLACES], x: u32) -> bool
+fn known(words: &[u32], hints: &[u16; PLACES], x: u32) -> bool
     ensures { λ r. ⌜ r ≡ lookedUp (now (words .entry)) (now (hints .entry)) x ⌝ }
 {
     let h = bucket(x);
@@ -53,7 +53,7 @@ fn known(words: &[u32], hints: &[u32; PLACES], x: u32) -> bool
 }
 
 // Whether x stands among the words: as the word that the hint p gives, or else anywhere; past the limit where p gives none.
-fn stands(words: &[u32], p: u32, x: u32) -> bool
+fn stands(words: &[u32], p: u16, x: u32) -> bool
     ensures { λ r. ⌜ r ≡ standsBy (now (words .entry)) p x ⌝ }
 {
     if p == 0 {
@@ -141,7 +141,7 @@ pub fn extents_with(before: &[u32], trace: &[u32]) -> usize
     ensures { λ r. ⌜ r ≡ min (length (firsts (now (before .entry) ++ now (trace .entry)))) (suc maxExtents) ⌝ }
 {
     let mut held = [0u32; MAX_EXTENTS];
-    let mut table = [0u32; PLACES];
+    let mut table = [0u16; PLACES];
     let n = hold(&mut held, &mut table, 0, before);
     if MAX_EXTENTS < n {
         return n;
@@ -151,7 +151,7 @@ pub fn extents_with(before: &[u32], trace: &[u32]) -> usize
 
 // The words that do not stand among the first n held are held too, each once, and noted in the table.
 // How many are held then, or one more than the limit, where there is no room for the next.
-fn hold(held: &mut [u32], table: &mut [u32; PLACES], n: usize, words: &[u32]) -> usize
+fn hold(held: &mut [u32], table: &mut [u16; PLACES], n: usize, words: &[u32]) -> usize
     requires { ⌜ Held (now held) (now table) n ⌝ }
     ensures { λ r. ⌜ Counted (take n (now (held .entry))) (now (words .entry)) (now (held .exit)) (now (table .exit)) r ⌝ }
 {
@@ -166,7 +166,7 @@ fn hold(held: &mut [u32], table: &mut [u32; PLACES], n: usize, words: &[u32]) ->
             held[count] = x;
             count = count + 1;
             let h = bucket(x);
-            table[h] = count as u32;
+            table[h] = count as u16;
         }
         i = i + 1;
     }

@@ -41,8 +41,8 @@ pub enum Answer {
 
 // The session after a read, beside the answer.
 pub struct Step {
-    pub session: Session,
     pub answer: Answer,
+    pub session: Session,
 }
 
 impl Session {
@@ -91,31 +91,22 @@ impl Session {
     }
 
     // A read of the extent x, whose mark is in slot k, after so many slots looked at.
-    fn moved(self, x: u32, k: usize, looked: u32) -> Step
+    fn moved(mut self, x: u32, k: usize, looked: u32) -> Step
         requires { ⌜ Movable self x k looked ⌝ }
         ensures { λ r. ⌜ r ≡ stepAt self x (at (suc (sum (drop (suc k) (marks self))))) ⌝ }
     {
+        let w = session_sums::above(&self.sums, k);
         let next = self.next as usize;
-        let mut sums = self.sums;
-        let w = session_sums::above(&sums, k);
-        session_sums::put_mark(&mut sums, k, 0);
-        session_sums::put_mark(&mut sums, next, 1);
-        let mut slots = self.slots;
-        slots[k] = 0;
-        slots[next] = x;
+        session_sums::put_mark(&mut self.sums, k, 0);
+        session_sums::put_mark(&mut self.sums, next, 1);
+        self.slots[k] = 0;
+        self.slots[next] = x;
         let t = w.total as usize;
-        let mut hist = self.hist;
-        hist[t] = hist[t] + 1;
-        let first = self.first;
+        self.hist[t] = self.hist[t] + 1;
+        self.next = self.next + 1;
+        self.reads = self.reads + 1;
         Step {
-            session: Session {
-                reads: self.reads + 1,
-                first,
-                hist,
-                slots,
-                sums,
-                next: self.next + 1,
-            },
+            session: self,
             answer: Answer::Distance {
                 distance: t as u32 + 1,
                 sums_read: w.count,
@@ -125,28 +116,19 @@ impl Session {
     }
 
     // A first read of the extent x, after so many slots looked at.
-    fn entered(self, x: u32, looked: u32) -> Step
+    fn entered(mut self, x: u32, looked: u32) -> Step
         requires { ⌜ Enterable self looked ⌝ }
         ensures { λ r. ⌜ r ≡ stepAt self x (cold (suc (extents self))) ⌝ }
     {
+        let v = self.sums[ROOT];
         let next = self.next as usize;
-        let mut sums = self.sums;
-        let v = sums[ROOT];
-        session_sums::put_mark(&mut sums, next, 1);
-        let mut slots = self.slots;
-        slots[next] = x;
-        let mut first = self.first;
-        first[v as usize] = x;
-        let hist = self.hist;
+        self.first[v as usize] = x;
+        session_sums::put_mark(&mut self.sums, next, 1);
+        self.slots[next] = x;
+        self.next = self.next + 1;
+        self.reads = self.reads + 1;
         Step {
-            session: Session {
-                reads: self.reads + 1,
-                first,
-                hist,
-                slots,
-                sums,
-                next: self.next + 1,
-            },
+            session: self,
             answer: Answer::Cold {
                 number: v + 1,
                 slots_looked: looked,

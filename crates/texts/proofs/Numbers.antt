@@ -52,7 +52,7 @@ by-digits P one two n = upto n n (omega arith)
         rw (decimal-long n s) (two (decimal (n / 10)) ((48 + n % 10) ∷ []) (upto k (n / 10) (omega arith)) (one (n % 10) (omega arith))))
 
 -- ten times itself, k times
-pub ten : ℕ → ℕ
+unfoldable pub ten : ℕ → ℕ
 ten zero = 1
 ten (suc k) = ten k * 10
 

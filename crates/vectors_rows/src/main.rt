@@ -63,7 +63,10 @@ fn main() {
     let last_new = after(MAX_EXTENTS as u32 - 1, MAX_EXTENTS as u32 - 1);
     let full = row(b"the 1,024th extent", last_new.read(MAX_EXTENTS as u32 - 1));
     let known = row(b"1,024 extents, then a known one", full.read(0));
-    row(b"1,024 extents, then another", known.read(MAX_EXTENTS as u32));
+    row(
+        b"1,024 extents, then another",
+        known.read(MAX_EXTENTS as u32),
+    );
     let twice = after(SLOTS as u32, MAX_EXTENTS as u32);
     let kept = row(
         b"1,024 extents twice, then another",
