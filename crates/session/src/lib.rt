@@ -91,22 +91,31 @@ impl Session {
     }
 
     // A read of the extent x, whose mark is in slot k, after so many slots looked at.
-    fn moved(mut self, x: u32, k: usize, looked: u32) -> Step
+    fn moved(self, x: u32, k: usize, looked: u32) -> Step
         requires { ⌜ Movable self x k looked ⌝ }
         ensures { λ r. ⌜ r ≡ stepAt self x (at (suc (sum (drop (suc k) (marks self))))) ⌝ }
     {
-        let w = session_sums::above(&self.sums, k);
         let next = self.next as usize;
-        session_sums::put_mark(&mut self.sums, k, 0);
-        session_sums::put_mark(&mut self.sums, next, 1);
-        self.slots[k] = 0;
-        self.slots[next] = x;
+        let mut sums = self.sums;
+        let w = session_sums::above(&sums, k);
+        session_sums::put_mark(&mut sums, k, 0);
+        session_sums::put_mark(&mut sums, next, 1);
+        let mut slots = self.slots;
+        slots[k] = 0;
+        slots[next] = x;
         let t = w.total as usize;
-        self.hist[t] = self.hist[t] + 1;
-        self.next = self.next + 1;
-        self.reads = self.reads + 1;
+        let mut hist = self.hist;
+        hist[t] = hist[t] + 1;
+        let first = self.first;
         Step {
-            session: self,
+            session: Session {
+                reads: self.reads + 1,
+                first,
+                hist,
+                slots,
+                sums,
+                next: self.next + 1,
+            },
             answer: Answer::Distance {
                 distance: t as u32 + 1,
                 sums_read: w.count,
@@ -116,19 +125,28 @@ impl Session {
     }
 
     // A first read of the extent x, after so many slots looked at.
-    fn entered(mut self, x: u32, looked: u32) -> Step
+    fn entered(self, x: u32, looked: u32) -> Step
         requires { ⌜ Enterable self looked ⌝ }
         ensures { λ r. ⌜ r ≡ stepAt self x (cold (suc (extents self))) ⌝ }
     {
-        let v = self.sums[ROOT];
         let next = self.next as usize;
-        self.first[v as usize] = x;
-        session_sums::put_mark(&mut self.sums, next, 1);
-        self.slots[next] = x;
-        self.next = self.next + 1;
-        self.reads = self.reads + 1;
+        let mut sums = self.sums;
+        let v = sums[ROOT];
+        session_sums::put_mark(&mut sums, next, 1);
+        let mut slots = self.slots;
+        slots[next] = x;
+        let mut first = self.first;
+        first[v as usize] = x;
+        let hist = self.hist;
         Step {
-            session: self,
+            session: Session {
+                reads: self.reads + 1,
+                first,
+                hist,
+                slots,
+                sums,
+                next: self.next + 1,
+            },
             answer: Answer::Cold {
                 number: v + 1,
                 slots_looked: looked,

@@ -9,10 +9,10 @@ use session::Answer;
 use session::Session;
 
 // How many logs there are.
-const LOGS: usize = 24;
+const LOGS: usize = 48;
 
 // Log k has so many times k reads.
-const LONGER: usize = 130;
+const LONGER: usize = 65;
 
 // More reads than the longest log has.
 const READS: usize = LOGS * LONGER;
@@ -20,44 +20,55 @@ const READS: usize = LOGS * LONGER;
 // How many sizes there are.
 const SIZES: usize = 16;
 
-// Whether a read's answer is a distance of at most the size.
-fn is_within(answer: Answer, size: u32) -> bool {
+// The distance that a read's answer tells; 0 where it tells none.
+fn distance_of(answer: Answer) -> u32 {
     match answer {
         Answer::Cold {
             number: _,
             slots_looked: _,
-        } => false,
+        } => 0,
         Answer::Distance {
             distance,
             sums_read: _,
             slots_looked: _,
-        } => distance <= size,
-        Answer::Refused(_) => false,
+        } => distance,
+        Answer::Refused(_) => 0,
     }
 }
 
-// A log read by a session and by a simulated cache of one size.
-fn at_size(log: &[u32], size: u32, so_far: Count) -> Count {
+// What a session tells of the reads of a log, one by one, at the front of a row.
+fn tell(log: &[u32], distances: &mut [u32]) {
+    let mut session = Session::new();
+    for i in 0..log.len() {
+        let step = session.read(log[i]);
+        let answer = step.answer;
+        session = step.session;
+        words::put(distances, i, distance_of(answer));
+    }
+}
+
+// Whether a read told a distance of at most the size.
+fn is_within(distance: u32, size: u32) -> bool {
+    distance != 0 && distance <= size
+}
+
+// What was told of a log's reads beside a simulated cache of one size.
+fn at_size(log: &[u32], distances: &[u32], size: u32, so_far: Count) -> Count {
     let mut held = [0u32; MAX_EXTENTS];
     let mut last = [0u32; MAX_EXTENTS];
     let places = cache::places(size);
-    let mut session = Session::new();
     let mut count = so_far;
     for i in 0..log.len() {
-        let x = log[i];
         let time = std::num::wrapping_add_u32(words::narrow(i), 1);
-        let hit = cache::read(&mut held, &mut last, places, x, time);
-        let step = session.read(x);
-        let answer = step.answer;
-        session = step.session;
-        count = count.tally(hit == is_within(answer, size));
+        let hit = cache::read(&mut held, &mut last, places, log[i], time);
+        count = count.tally(hit == is_within(words::get(distances, i), size));
     }
     count
 }
 
 // Log k at every size.
 fn one(k: usize, so_far: Count) -> Count
-    requires { ⌜ k < 24 ⌝ }
+    requires { ⌜ k < 48 ⌝ }
 {
     let sizes = [
         0u32,
@@ -80,9 +91,11 @@ fn one(k: usize, so_far: Count) -> Count
     let mut log = [0u32; READS];
     logs::fill(&mut log, k as u64);
     let reads = k * LONGER;
+    let mut distances = [0u32; READS];
+    tell(&log[0..reads], &mut distances);
     let mut c = so_far;
     for i in 0..SIZES {
-        c = at_size(&log[0..reads], words::get(&sizes, i), c);
+        c = at_size(&log[0..reads], &distances, words::get(&sizes, i), c);
     }
     c
 }

@@ -8,14 +8,19 @@ use session::Answer;
 use session::Session;
 use session::Step;
 
+// The session after one more read.
+fn one_more(s: Session, extent: u32) -> Session {
+    let step = s.read(extent);
+    step.session
+}
+
 // The session after so many reads that go round so many extents.
 fn after(reads: u32, extents: u32) -> Session
     requires { ⌜ 0 < extents ⌝ }
 {
     let mut s = Session::new();
     for i in 0..reads {
-        let step = s.read(i % extents);
-        s = step.session;
+        s = one_more(s, i % extents);
     }
     s
 }

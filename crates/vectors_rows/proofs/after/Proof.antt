@@ -16,11 +16,11 @@ new-requires c κs = search needs
 loop-holds : tie.Need-loop-holds Inv-loop μ-loop
 loop-holds c = search needs
 
-rem-read : tie.Need-rem-read Inv-loop μ-loop
-rem-read c = search needs
+rem-one-more : tie.Need-rem-one-more Inv-loop μ-loop
+rem-one-more c = search needs
 
-read-requires : tie.Need-read-requires Inv-loop μ-loop
-read-requires c κs = search needs
+one-more-requires : tie.Need-one-more-requires Inv-loop μ-loop
+one-more-requires c κs = search needs
 
 add-i : tie.Need-add-i Inv-loop μ-loop
 add-i c = search needs
@@ -42,8 +42,8 @@ after-spec =
     μ-loop
     new-requires
     loop-holds
-    rem-read
-    read-requires
+    rem-one-more
+    one-more-requires
     add-i
     loop-less
     loop-again

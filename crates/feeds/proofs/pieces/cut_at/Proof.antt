@@ -5,25 +5,19 @@ use Rattle.feeds.proofs.pieces.cut_at.Statement.{statement}
 use Rattle.feeds.proofs.pieces.cut_at.Tie as tie
 
 abbrev Inv-loop : tie.InvT-loop
-Inv-loop text b wanted agree n₀ a₀ n a = a ≤ b + 1
+Inv-loop text b apart wanted agree n₀ a₀ n a = a ≤ b + 1
 
 abbrev μ-loop : tie.MeasureT-loop
-μ-loop text b wanted agree n₀ a₀ n a = (b + 1) - a
+μ-loop text b apart wanted agree n₀ a₀ n a = (b + 1) - a
 
 loop-holds : tie.Need-loop-holds Inv-loop μ-loop
 loop-holds c = search needs
 
-by-three-requires : tie.Need-by-three-requires Inv-loop μ-loop
-by-three-requires c κs = search needs
+rem-if1 : tie.Need-rem-if1 Inv-loop μ-loop
+rem-if1 c = search needs
 
-slice-aggregate-part : tie.Need-slice-aggregate-part Inv-loop μ-loop
-slice-aggregate-part c = search needs
-
-part-requires : tie.Need-part-requires Inv-loop μ-loop
-part-requires c κs = search needs
-
-same-requires : tie.Need-same-requires Inv-loop μ-loop
-same-requires c κs = search needs
+gives-requires : tie.Need-gives-requires Inv-loop μ-loop
+gives-requires c κs = search needs
 
 cast-wrapping-add-u64 : tie.Need-cast-wrapping-add-u64 Inv-loop μ-loop
 cast-wrapping-add-u64 c = search needs
@@ -53,10 +47,8 @@ cut-at-spec =
     Inv-loop
     μ-loop
     loop-holds
-    by-three-requires
-    slice-aggregate-part
-    part-requires
-    same-requires
+    rem-if1
+    gives-requires
     cast-wrapping-add-u64
     wrapping-add-u64-requires
     add-a

@@ -12,61 +12,69 @@ use borrow.Author.Needs.{needs}
 use Rattle.session.proofs.Session.entered.Statement.{statement}
 use Rattle.session.proofs.Session.entered.Tie as tie
 
-element-copy-out-v : tie.Need-element-copy-out-v
-element-copy-out-v c = search needs
+-- the start, from the place where F is changed
+abbrev start : tie.After-first → tie.Start
+start c = c .before .before .before .before .before .before
+
+-- that place, from the end
+abbrev changed : tie.After-struct-known3 → tie.After-first
+changed c = c .before .before .before
 
 cast-next : tie.Need-cast-next
 cast-next c = search needs
 
-cast-self : tie.Need-cast-self
-cast-self c = search needs
-
-mul-self : tie.Need-mul-self
-unfolding leaves extents marks
-mul-self c = omega (arith, trued-root levels slotCount _ (c .before .pre .trued) refl, c .before .pre .few)
-
-element-write-self : tie.Need-element-write-self
-unfolding leaves extents marks
-element-write-self c = omega (arith, trued-root levels slotCount _ (c .before .pre .trued) refl, c .before .pre .few)
+array-read-v : tie.Need-array-read-v
+array-read-v c = search needs
 
 put-mark-requires : tie.Need-put-mark-requires
 put-mark-requires c κs = search needs
 
-mul-self-2 : tie.Need-mul-self-2
-mul-self-2 c = search needs
+mul-slots : tie.Need-mul-slots
+mul-slots c = search needs
 
-element-write-self-2 : tie.Need-element-write-self-2
-element-write-self-2 c = search needs
+array-write-slots : tie.Need-array-write-slots
+array-write-slots c = search needs
 
-add-self : tie.Need-add-self
-add-self c = search needs
+cast-first : tie.Need-cast-first
+cast-first c = search needs
 
-add-self-2 : tie.Need-add-self-2
-add-self-2 c = search needs
-
-add-t9 : tie.Need-add-t9
+mul-first : tie.Need-mul-first
 unfolding leaves extents marks
-add-t9 c = let p = c .before .before .before .pre in record { fits = omega (arith, trued-root levels slotCount _ (p .trued) refl, p .few) }
+mul-first c = omega (arith, trued-root levels slotCount _ (start c .pre .trued) refl, start c .pre .few)
+
+array-write-first : tie.Need-array-write-first
+unfolding leaves extents marks
+array-write-first c = omega (arith, trued-root levels slotCount _ (start c .pre .trued) refl, start c .pre .few)
+
+add-t12 : tie.Need-add-t12
+add-t12 c = search needs
+
+add-t24 : tie.Need-add-t24
+add-t24 c = search needs
+
+add-t26 : tie.Need-add-t26
+unfolding leaves extents marks
+add-t26 c = let p = start (changed c) .pre in record { fits = omega (arith, trued-root levels slotCount _ (p .trued) refl, p .few) }
 
 returns : tie.Need-returns
 unfolding leaves extents marks entered
 returns c =
-    let p = c .before .before .before .pre in
-    simp (add-one, p .seen, trued-root levels slotCount _ (p .trued) refl, c .put-mark .ensures ∙ put-trued _ _ 1 (p .trued) (p .room) (omega arith))
+    let p = start (changed c) .pre in
+    simp (add-one, p .seen, trued-root levels slotCount _ (p .trued) refl, changed c .before .before .put-mark .ensures ∙ put-trued _ _ 1 (p .trued) (p .room) (omega arith))
 
 pub entered-spec : {M : Type 1} → statement M
 entered-spec =
     tie.close
     (tie.spec
-    element-copy-out-v
     cast-next
-    cast-self
-    mul-self
-    element-write-self
+    array-read-v
     put-mark-requires
-    mul-self-2
-    element-write-self-2
-    add-self
-    add-self-2
-    add-t9
+    mul-slots
+    array-write-slots
+    cast-first
+    mul-first
+    array-write-first
+    add-t12
+    add-t24
+    add-t26
     returns)

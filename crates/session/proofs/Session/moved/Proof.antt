@@ -28,11 +28,11 @@ start c = c .before .before .before .before
 
 -- what the walk read
 walked : (c : tie.After-above)
-    → c .above .result ≡ record { total = sum (drop (suc (start c .args .k)) (marksIn (start c .args .t1 .sums))); count = zeros levels (start c .args .k) }
+    → c .above .result ≡ record { total = sum (drop (suc (start c .args .k)) (marksIn (start c .args .self .sums))); count = zeros levels (start c .args .k) }
 walked c = c .above .ensures ∙ walked-trued _ _ (start c .pre .trued) (omega (arith, start c .pre .below, start c .pre .room))
 
 -- the marks behind slot k
-total : (c : tie.After-above) → c .above .result .total ≡ sum (drop (suc (start c .args .k)) (marks (start c .args .t1)))
+total : (c : tie.After-above) → c .above .result .total ≡ sum (drop (suc (start c .args .k)) (marks (start c .args .self)))
 unfolding marks
 total c = ap (λ (w : Walked). w .total) (walked c)
 
@@ -62,11 +62,22 @@ moved-step s x k looked w sums here seen read put =
     let back : suc n - 1 ≡ n = omega arith in
     simp (add-one, ← here, back, seen, read, put)
 
-above-requires : tie.Need-above-requires
-above-requires c κs = search needs
+-- the walk, from the place where H is changed
+abbrev walk : tie.After-hist → tie.After-above
+walk c = c .before .before .before .before .before .before
+
+-- that place, from the end
+abbrev changed : tie.After-struct-known3 → tie.After-hist
+changed c = c .before .before .before
 
 cast-next : tie.Need-cast-next
-cast-next c = omega arith
+cast-next c = search needs
+
+slice-aggregate-above : tie.Need-slice-aggregate-above
+slice-aggregate-above c = search needs
+
+above-requires : tie.Need-above-requires
+above-requires c κs = search needs
 
 put-mark-requires : tie.Need-put-mark-requires
 put-mark-requires c κs = search needs
@@ -74,78 +85,80 @@ put-mark-requires c κs = search needs
 put-mark-requires-2 : tie.Need-put-mark-requires-2
 put-mark-requires-2 c κs = search needs
 
-mul-self : tie.Need-mul-self
-mul-self c = omega arith
+mul-slots : tie.Need-mul-slots
+mul-slots c = search needs
 
-element-write-self : tie.Need-element-write-self
-element-write-self c = omega arith
+array-write-slots : tie.Need-array-write-slots
+array-write-slots c = search needs
 
-mul-self-2 : tie.Need-mul-self-2
-mul-self-2 c = omega arith
+mul-slots-2 : tie.Need-mul-slots-2
+mul-slots-2 c = search needs
 
-element-write-self-2 : tie.Need-element-write-self-2
-element-write-self-2 c = omega arith
+array-write-slots-2 : tie.Need-array-write-slots-2
+array-write-slots-2 c = search needs
 
-mul-self-3 : tie.Need-mul-self-3
-mul-self-3 c = omega (arith, small (c .before .before .before .before))
+mul-hist : tie.Need-mul-hist
+mul-hist c = omega (arith, small (walk c))
 
-element-copy-out-self : tie.Need-element-copy-out-self
-element-copy-out-self c = omega (arith, small (c .before .before .before .before))
+array-read-hist : tie.Need-array-read-hist
+array-read-hist c = omega (arith, small (walk c))
 
-add-self : tie.Need-add-self
-add-self c =
-    let a = c .before .before .before .before .before in
-    omega (arith, start a .pre .counted, ap (λ (n : ℕ). getD (start a .args .t1 .hist) n 0) (total a))
+add-hist : tie.Need-add-hist
+add-hist c =
+    let a = walk c in
+    omega (arith, start a .pre .counted, ap (λ (n : ℕ). getD (start a .args .self .hist) n 0) (total a))
 
-mul-self-4 : tie.Need-mul-self-4
-mul-self-4 c = omega (arith, small (c .before .before .before .before .before))
+mul-hist-2 : tie.Need-mul-hist-2
+mul-hist-2 c = omega (arith, small (walk c))
 
-element-write-self-3 : tie.Need-element-write-self-3
-element-write-self-3 c = omega (arith, small (c .before .before .before .before .before))
+array-write-hist : tie.Need-array-write-hist
+array-write-hist c = omega (arith, small (walk c))
 
-add-self-2 : tie.Need-add-self-2
-add-self-2 c = omega arith
+add-t24 : tie.Need-add-t24
+add-t24 c = search needs
 
-add-self-3 : tie.Need-add-self-3
-add-self-3 c = omega arith
+add-t25 : tie.Need-add-t25
+add-t25 c = search needs
 
-cast-t11 : tie.Need-cast-t11
-cast-t11 c = omega (arith, small (c .before .before .before .before .before))
+cast-t33 : tie.Need-cast-t33
+cast-t33 c = omega (arith, small (walk (changed c)))
 
-add-t22 : tie.Need-add-t22
-add-t22 c = omega (arith, small (c .before .before .before .before .before))
+add-t34 : tie.Need-add-t34
+add-t34 c = omega (arith, small (walk (changed c)))
 
 returns : tie.Need-returns
 unfolding marks
 returns c =
-    let a = c .before .before .before .before .before in
+    let put = changed c .before .before in
+    let a = walk (changed c) in
     let p = start a .pre in
-    let s = start a .args .t1 in
+    let s = start a .args .self in
     let k = start a .args .k in
-    moved-step s (start a .args .x) k (start a .args .looked) (a .above .result) (c .before .put-mark2 .last .0) (p .here) (p .seen) (walked a)
-    (c .before .put-mark2 .ensures
-    ∙ ap (λ (l : List ℕ). markPut l (s .next) 1) (c .before .before .before .put-mark .ensures)
+    moved-step s (start a .args .x) k (start a .args .looked) (a .above .result) (put .put-mark2 .last .0) (p .here) (p .seen) (walked a)
+    (put .put-mark2 .ensures
+    ∙ ap (λ (l : List ℕ). markPut l (s .next) 1) (put .before .before .put-mark .ensures)
     ∙ put-moved (s .sums) k (s .next) (p .trued) (omega (arith, p .below, p .room)) (p .room))
 
 pub moved-spec : {M : Type 1} → statement M
 moved-spec =
     tie.close
     (tie.spec
-    above-requires
     cast-next
+    slice-aggregate-above
+    above-requires
     put-mark-requires
     put-mark-requires-2
-    mul-self
-    element-write-self
-    mul-self-2
-    element-write-self-2
-    mul-self-3
-    element-copy-out-self
-    add-self
-    mul-self-4
-    element-write-self-3
-    add-self-2
-    add-self-3
-    cast-t11
-    add-t22
+    mul-slots
+    array-write-slots
+    mul-slots-2
+    array-write-slots-2
+    mul-hist
+    array-read-hist
+    add-hist
+    mul-hist-2
+    array-write-hist
+    add-t24
+    add-t25
+    cast-t33
+    add-t34
     returns)

@@ -5,25 +5,16 @@ use Rattle.vectors.proofs.comparisons.at_size.Statement.{statement}
 use Rattle.vectors.proofs.comparisons.at_size.Tie as tie
 
 abbrev Inv-loop : tie.InvT-loop
-Inv-loop log size held₀ last₀ places session₀ count₀ i₀ i-end held last session count i = i-end < 18446744073709551616
+Inv-loop log distances size held₀ last₀ places count₀ i₀ i-end held last count i = i-end < 18446744073709551616
 
 abbrev μ-loop : tie.MeasureT-loop
-μ-loop log size held₀ last₀ places session₀ count₀ i₀ i-end held last session count i = i-end - i
+μ-loop log distances size held₀ last₀ places count₀ i₀ i-end held last count i = i-end - i
 
 places-requires : tie.Need-places-requires Inv-loop μ-loop
 places-requires c κs = search needs
 
-new-requires : tie.Need-new-requires Inv-loop μ-loop
-new-requires c κs = search needs
-
 loop-holds : tie.Need-loop-holds Inv-loop μ-loop
 loop-holds c = search needs
-
-mul-x : tie.Need-mul-x Inv-loop μ-loop
-mul-x c = search needs
-
-shared-slice-read-x : tie.Need-shared-slice-read-x Inv-loop μ-loop
-shared-slice-read-x c = search needs
 
 narrow-requires : tie.Need-narrow-requires Inv-loop μ-loop
 narrow-requires c κs = search needs
@@ -31,11 +22,17 @@ narrow-requires c κs = search needs
 wrapping-add-u32-requires : tie.Need-wrapping-add-u32-requires Inv-loop μ-loop
 wrapping-add-u32-requires c κs = search needs
 
+mul-read : tie.Need-mul-read Inv-loop μ-loop
+mul-read c = search needs
+
+shared-slice-read-read : tie.Need-shared-slice-read-read Inv-loop μ-loop
+shared-slice-read-read c = search needs
+
 read-requires : tie.Need-read-requires Inv-loop μ-loop
 read-requires c κs = search needs
 
-read-requires-2 : tie.Need-read-requires-2 Inv-loop μ-loop
-read-requires-2 c κs = search needs
+get-requires : tie.Need-get-requires Inv-loop μ-loop
+get-requires c κs = search needs
 
 is-within-requires : tie.Need-is-within-requires Inv-loop μ-loop
 is-within-requires c κs = search needs
@@ -62,14 +59,13 @@ at-size-spec =
     Inv-loop
     μ-loop
     places-requires
-    new-requires
     loop-holds
-    mul-x
-    shared-slice-read-x
     narrow-requires
     wrapping-add-u32-requires
+    mul-read
+    shared-slice-read-read
     read-requires
-    read-requires-2
+    get-requires
     is-within-requires
     tally-requires
     add-i

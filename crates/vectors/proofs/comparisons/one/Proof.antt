@@ -5,10 +5,10 @@ use Rattle.vectors.proofs.comparisons.one.Statement.{statement}
 use Rattle.vectors.proofs.comparisons.one.Tie as tie
 
 abbrev Inv-loop : tie.InvT-loop
-Inv-loop k sizes log reads c₀ i₀ c i = Unit {0}
+Inv-loop k sizes log reads distances c₀ i₀ c i = Unit {0}
 
 abbrev μ-loop : tie.MeasureT-loop
-μ-loop k sizes log reads c₀ i₀ c i = 16 - i
+μ-loop k sizes log reads distances c₀ i₀ c i = 16 - i
 
 slice-aggregate-fill : tie.Need-slice-aggregate-fill Inv-loop μ-loop
 slice-aggregate-fill c = search needs
@@ -18,6 +18,21 @@ fill-requires c κs = search needs
 
 mul-reads : tie.Need-mul-reads Inv-loop μ-loop
 mul-reads c = search needs
+
+sub-tell : tie.Need-sub-tell Inv-loop μ-loop
+sub-tell c = search needs
+
+part-tell-start : tie.Need-part-tell-start Inv-loop μ-loop
+part-tell-start c = search needs
+
+part-tell-end : tie.Need-part-tell-end Inv-loop μ-loop
+part-tell-end c = search needs
+
+slice-aggregate-tell : tie.Need-slice-aggregate-tell Inv-loop μ-loop
+slice-aggregate-tell c = search needs
+
+tell-requires : tie.Need-tell-requires Inv-loop μ-loop
+tell-requires c κs = search needs
 
 loop-holds : tie.Need-loop-holds Inv-loop μ-loop
 loop-holds c = search needs
@@ -30,6 +45,9 @@ part-at-size-start c = search needs
 
 part-at-size-end : tie.Need-part-at-size-end Inv-loop μ-loop
 part-at-size-end c = search needs
+
+slice-aggregate-at-size : tie.Need-slice-aggregate-at-size Inv-loop μ-loop
+slice-aggregate-at-size c = search needs
 
 slice-aggregate-get : tie.Need-slice-aggregate-get Inv-loop μ-loop
 slice-aggregate-get c = search needs
@@ -61,10 +79,16 @@ one-spec =
     slice-aggregate-fill
     fill-requires
     mul-reads
+    sub-tell
+    part-tell-start
+    part-tell-end
+    slice-aggregate-tell
+    tell-requires
     loop-holds
     sub-at-size
     part-at-size-start
     part-at-size-end
+    slice-aggregate-at-size
     slice-aggregate-get
     get-requires
     at-size-requires
