@@ -241,12 +241,15 @@ class Watches(Refusing):
     """What a watch takes of answers and of numbers."""
 
     def test_answers_of_a_session_and_of_distances(self):
+        sizes = (0, 1, 2, 3, MAX_EXTENTS, MOST)
         for log in (LOG, LOG * 9, list(range(MAX_EXTENTS)) * 2, [5] * 8, []):
-            for size in (0, 1, 2, 3, MAX_EXTENTS, MOST):
-                one, other, session = jemqolu.Watch(size), jemqolu.Watch(size), jemqolu.Session()
-                for extent, answer in zip(log, jemqolu.distances([0, 0], log)):
-                    one.read(session.read(extent))
-                    other.read(answer)
+            session, answers = jemqolu.Session(), jemqolu.distances([0, 0], log)
+            told = [session.read(extent) for extent in log]
+            for size in sizes:
+                one, other = jemqolu.Watch(size), jemqolu.Watch(size)
+                for answer, same in zip(told, answers):
+                    one.read(answer)
+                    other.read(same)
                 self.assertEqual(one.words, other.words)
                 self.assertEqual((one.misses(), one.share()), (session.misses(size), session.share(size)))
 
@@ -263,14 +266,14 @@ class Watches(Refusing):
         for distance in range(1, MAX_EXTENTS + 1):
             one.read(Index(distance)), other.read(Answer.at(distance))
         one.read(True), other.read(Answer.at(1))
-        self.assertEqual((one.words, one.words.tolist()), (other.words, [2, 258, 1, 3]))
+        self.assertEqual((one.words, one.words.tolist()), (other.words, [2, MAX_EXTENTS + 2, 1, 3]))
 
     def refused_numbers(self):
         """Answers and numbers that a watch refuses, however many reads it has."""
-        above = COLD_BASE + MAX_EXTENTS + 1
-        yield from map(Answer, (0, 257, COLD_BASE - 1, COLD_BASE, above, 2 * COLD_BASE, 2 * COLD_BASE + 1, MOST))
-        yield from (Answer.at(0), Answer.at(257), Answer.newcomer(0), Answer.newcomer(257))
-        yield from (0, -1, 257, COLD_BASE, COLD_BASE + 1, above - 1, MOST, MOST + 1, MOST + 2, MOST + 2 + COLD_BASE)
+        above, cold = MAX_EXTENTS + 1, COLD_BASE + MAX_EXTENTS
+        yield from map(Answer, (0, above, COLD_BASE - 1, COLD_BASE, cold + 1, 2 * COLD_BASE, 2 * COLD_BASE + 1, MOST))
+        yield from (Answer.at(0), Answer.at(above), Answer.newcomer(0), Answer.newcomer(above))
+        yield from (0, -1, above, COLD_BASE, COLD_BASE + 1, cold, MOST, MOST + 1, MOST + 2, MOST + 2 + COLD_BASE)
         yield from (False, -MOST, 1 - COLD_BASE, 1 << 64, (1 << 64) + 1, -(1 << 200), 1 << 20_000)
         yield from (Answer.newcomer(MOST - COLD_BASE), Index(0), Index(COLD_BASE + 1))
 
@@ -281,7 +284,7 @@ class Watches(Refusing):
             self.refused(2, watch.read, given)
             self.refused(2, full.read, given)
             self.refused(7, unsound.read, given)
-        for given in (1, 256, Answer.at(1), Answer.newcomer(1), Answer.newcomer(256)):
+        for given in (1, MAX_EXTENTS, Answer.at(1), Answer.newcomer(1), Answer.newcomer(MAX_EXTENTS)):
             self.refused(8, full.read, given)
             self.refused(7, unsound.read, given)
         self.assertEqual(watch.words.tolist(), [2, 7, 3, 3])
