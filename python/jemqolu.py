@@ -32,7 +32,7 @@ from jemqolu_answers import MOST as _MOST
 from jemqolu_answers import number_of as _number
 
 MAX_READS = 1_048_576
-MAX_EXTENTS = 256
+MAX_EXTENTS = 1024
 MAX_PLAN_BYTES = 65_536
 MAX_JOINS = 8
 MAX_PARTS = 16
