@@ -5,6 +5,7 @@ Run python/build first. Answers are compared with a plain count of different ext
 """
 import collections.abc
 import copy
+import functools
 import itertools
 import pickle
 import sys
@@ -46,13 +47,14 @@ def cut_in_three(log):
         yield log[:first], log[first:second], log[second:]
 
 
+# the summary of a part, made once for all logs that have it
+summary_of = functools.lru_cache(maxsize=None)(jemqolu.summarize)
+
+
 def answers_of_parts(parts):
     """The answers of the parts, each after the summary of those before it, in one list."""
-    answers, prefix = [], [0, 0]
-    for part in parts:
-        answers += jemqolu.distances(prefix, part)
-        prefix = jemqolu.join(prefix, jemqolu.summarize(part))
-    return answers
+    prefixes = itertools.accumulate(map(summary_of, parts[:-1]), jemqolu.join, initial=[0, 0])
+    return [answer for prefix, part in zip(prefixes, parts) for answer in jemqolu.distances(prefix, part)]
 
 
 class Reduced:
@@ -242,7 +244,7 @@ class Watches(Refusing):
 
     def test_answers_of_a_session_and_of_distances(self):
         sizes = (0, 1, 2, 3, MAX_EXTENTS, MOST)
-        for log in (LOG, LOG * 9, list(range(MAX_EXTENTS)) * 2, [5] * 8, []):
+        for log in (LOG, LOG * 9, [*range(MAX_EXTENTS), *range(50)], [5] * 8, []):
             session, answers = jemqolu.Session(), jemqolu.distances([0, 0], log)
             told = [session.read(extent) for extent in log]
             for size in sizes:

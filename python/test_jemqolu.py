@@ -236,7 +236,7 @@ class Splits(Refusing):
         bad, good = [SUMMARY, TWOS[1:]], [SUMMARY, TWOS]
         for store in (jemqolu.MAX_STORE + 1, MOST, MOST + 1, 1 << 64, 1 << 200):
             self.refused(2, jemqolu.split, store, [MOST, 1], bad)
-        for customers in (0, 9, 100_000):
+        for customers in (0, 9, 20_000):
             self.refused(2, jemqolu.split, 2, [MOST] * customers, bad)
             self.refused(2, jemqolu.split, 2, [0] * customers, [TWOS] * customers)
         self.refused(5, jemqolu.split, 2, [MOST, 1], bad)
@@ -256,7 +256,7 @@ class Splits(Refusing):
         for cut in range(len(whole) + 1):
             if cut != len(SUMMARY):
                 self.not_summaries([whole[:cut], array("I", whole[cut:])])
-        for summaries in ([], [whole], [SUMMARY, TWOS, []], [[], SUMMARY, TWOS], [TWOS] * 9, [TWOS] * 100_000):
+        for summaries in ([], [whole], [SUMMARY, TWOS, []], [[], SUMMARY, TWOS], [TWOS] * 9, [TWOS] * 20_000):
             self.not_summaries(summaries)
 
     def test_bad_summaries(self):
@@ -467,8 +467,8 @@ class Threads(Beside):
             session.words = few
             session.words = whole
 
-        self.beside(change, lambda: session.read(3), 2000)
-        self.beside(self.resizing(whole, whole[:]), lambda: session.read(3), 2000)
+        self.beside(change, lambda: session.read(3), 1000)
+        self.beside(self.resizing(whole, whole[:]), lambda: session.read(3), 1000)
 
     def test_calls_side_by_side(self):
         log = memoryview(array("I", LOG * 20_000).tobytes()).cast("I")

@@ -87,8 +87,7 @@ class Extents(Refusing):
         self.refused(9, jemqolu.listing, text_of([*EXTENTS, MORE]))
 
     def test_the_longest_listing(self):
-        rounds = MAX_READS // MAX_EXTENTS
-        lines = "".join(" (read %d)\n" % extent for extent in EXTENTS) * rounds
+        lines = "".join(" (read %d)\n" % extent for extent in range(MAX_EXTENTS)) * (MAX_READS // MAX_EXTENTS)
         listing = jemqolu.listing("(trace\n" + lines[:-1] + ")\n").decode("ascii")
         self.assertTrue(listing.endswith(rows_of([MAX_READS] * (MAX_EXTENTS - 1) + [MAX_EXTENTS]) + ")\n"))
 

@@ -85,13 +85,16 @@ class Moments(Refusing):
         self.assertEqual(session.summary(), jemqolu.summarize([7, 3, 3]))
 
     def carried_out(self, calls):
-        """The session and the account after these calls, compared call by call, and how many were refused."""
+        """The session and the account after these calls, compared call by call, and how many were refused. The words are
+        compared after each naming and return, and in the end."""
         session, account, refused = jemqolu.Session(), Account(), 0
         for call, value in calls:
             got = answer(session, call, value)
             self.assertEqual(got, answer(account, call, value))
-            self.assertEqual(session.words, session_of(account.log).words)
+            if call != "read":
+                self.assertEqual(session.words, session_of(account.log).words)
             refused += got in (2, 11)
+        self.assertEqual(session.words, session_of(account.log).words)
         return session, account, refused
 
     def test_lists_of_calls(self):

@@ -106,17 +106,22 @@ def logs(reads):
 def some_after(slot):
     """Next slots above a slot and below SLOTS: the first and the last ones, and each 41st."""
     above = range(slot + 1, SLOTS)
-    return sorted({*above[:30], *above[-30:], *above[::41]})
+    return sorted({*above[:10], *above[-10:], *above[::41]})
+
+
+def resumed(marks, next_slot):
+    """A session with these marks and this next slot, as many reads as there were slots taken."""
+    return jemqolu.Session.resume(made(marks, next_slot, next_slot))
 
 
 class Telling(Refusing):
     def tells(self, session, log, wanted):
         """Of each of these reads the session tells what is wanted."""
-        reads = list(log)
-        self.assertEqual(len(reads), len(wanted))
-        for place, extent in enumerate(reads):
+        got = []
+        for extent in log:
             session.read(extent)
-            self.assertEqual(told(session), wanted[place], "read %d" % place)
+            got.append(told(session))
+        self.assertEqual(got, wanted)
 
 
 class Rows(Telling):
@@ -135,23 +140,23 @@ class Rows(Telling):
         numbers = range(MAX_EXTENTS)
         self.tells(jemqolu.Session(), numbers, [(0, number) for number in numbers])
         for reads in (1, 2, 100, LAST):
-            self.tells(session_of([5] * reads), [6], [(0, reads)])
+            self.tells(resumed({5: reads - 1}, reads), [6], [(0, reads)])
 
     def test_cold_reads_after_the_marks_move(self):
-        self.tells(session_of([5] * SLOTS), [6, 7, 8], [(0, 1), (0, 2), (0, 3)])
-        before = [*range(MAX_EXTENTS - 1)] + [3] * (MAX_EXTENTS + 1)
-        self.tells(session_of(before), [MOST], [(0, MAX_EXTENTS - 1)])
+        self.tells(resumed({5: LAST}, SLOTS), [6, 7, 8], [(0, 1), (0, 2), (0, 3)])
+        marks = {**{extent: extent for extent in range(MAX_EXTENTS - 1)}, 3: LAST}
+        self.tells(resumed(marks, SLOTS), [MOST], [(0, MAX_EXTENTS - 1)])
 
     def test_one_extent(self):
         # the mark is found at all slots but the last, then, from the last moved, again from 0 on
-        counts = [(0, 0)] + [(zeros(place % LAST), 1) for place in range(2 * SLOTS + 63)]
+        counts = [(0, 0)] + [(zeros(place % LAST), 1) for place in range(SLOTS + 63)]
         # those of the reads SLOTS and SLOTS + 1
         self.assertEqual(counts[LAST : SLOTS + 1], [(1, 1), (DIGITS, 1)])
         self.tells(jemqolu.Session(), [5] * len(counts), counts)
 
     def test_a_read_of_the_extent_read_last(self):
         session = jemqolu.Session()
-        for extent in random.Random(1).choices(range(200), k=SLOTS + 100):
+        for extent in random.Random(1).choices(range(200), k=MAX_EXTENTS + 100):
             session.read(extent)
             session.read(extent)
             self.assertEqual(session.slots_looked, 1)
@@ -167,18 +172,18 @@ class Rows(Telling):
     def test_slots_without_a_mark_are_not_extent_0(self):
         wanted = [(0, 0), (DIGITS, 1), (0, 2), (DIGITS - 1, 2), (DIGITS - 2, 1), (DIGITS - 1, 3)]
         self.tells(jemqolu.Session(), [1, 1, 0, 1, 1, 0], wanted)
-        self.tells(session_of([0] + [1] * (LAST - 1)), [0], [(DIGITS, LAST)])
+        self.tells(resumed({0: 0, 1: LAST - 1}, LAST), [0], [(DIGITS, LAST)])
 
 
 class Words(Telling):
     """Sessions that go on from words."""
 
-    def test_every_cut(self):
-        log = [place * place % 37 for place in range(SLOTS + 188)]
+    def test_every_cut_at_the_start_and_where_the_marks_move(self):
+        log = [place * place % 37 for place in range(SLOTS + 100)]
         wanted, session = account(log), jemqolu.Session()
         for cut, extent in enumerate(log):
-            resumed = jemqolu.Session.resume(session.words)
-            self.tells(resumed, log[cut : cut + 3], wanted[cut : cut + 3])
+            if not 100 < cut < SLOTS - 100:
+                self.tells(jemqolu.Session.resume(session.words), log[cut : cut + 3], wanted[cut : cut + 3])
             self.tells(session, [extent], [wanted[cut]])
 
     def test_every_short_log_where_the_marks_move(self):
@@ -288,8 +293,8 @@ class Refusals(Telling):
 
 class Logs(Telling):
     def test_logs_by_the_log_alone(self):
-        # enough that the marks move twice where all extents are read in turn
-        compared, reads = 0, 3 * MAX_EXTENTS + 200
+        # enough that the marks move, and are found after that
+        compared, reads = 0, SLOTS + 300
         for log in logs(reads):
             self.tells(jemqolu.Session(), log, account(log))
             compared += len(log)
