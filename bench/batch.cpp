@@ -63,23 +63,31 @@ static void row(const Batch &batch, bool whole_summary) {
     print_row(cells);
 }
 
-static void kinds(const std::string &title, bool whole_summary) {
-    begin_table(title, "Nanoseconds per read; 1,000,000 reads of 256 extents.", head("trace"));
-    for (Kind kind : all_kinds()) row({name_of(kind), trace_of(kind, READS, 256, 1), 1}, whole_summary);
+static void kinds(size_t extents, bool whole_summary) {
+    std::string what = whole_summary ? "The summary" : "The distances";
+    begin_table(what + " of a trace of " + in_words(extents), "Nanoseconds per read; 1,000,000 reads.", head("trace"));
+    for (Kind kind : all_kinds()) row({name_of(kind), trace_of(kind, READS, extents, 1), 1}, whole_summary);
+}
+
+static void growth() {
+    begin_table("The summary by the number of extents", "Nanoseconds per read; 1,000,000 reads, uniform.",
+                head("extents"));
+    for (size_t extents = 1; extents <= JEMQOLU_MAX_EXTENTS; extents *= 4) {
+        row({std::to_string(extents), trace_of(Kind::uniform, READS, extents, 1), 1}, true);
+    }
+}
+
+static void short_traces(size_t extents) {
+    begin_table("The summary by the number of reads, " + in_words(extents),
+                "Nanoseconds per read; uniform; short traces are called again to a million reads.", head("reads"));
+    for (size_t reads = 1000; reads <= READS; reads *= 10) {
+        row({std::to_string(reads), trace_of(Kind::uniform, reads, extents, 1), READS / reads}, true);
+    }
 }
 
 void batch_tables() {
-    kinds("The summary of a trace", true);
-    kinds("The distances of a trace", false);
-    begin_table("The summary by the number of extents", "Nanoseconds per read; 1,000,000 reads, uniform.",
-                head("extents"));
-    for (size_t extents : {1, 4, 16, 64, 256}) {
-        row({std::to_string(extents), trace_of(Kind::uniform, READS, extents, 1), 1}, true);
-    }
-    begin_table("The summary by the number of reads",
-                "Nanoseconds per read; uniform over 256 extents; short traces are called again to a million reads.",
-                head("reads"));
-    for (size_t reads = 1000; reads <= READS; reads *= 10) {
-        row({std::to_string(reads), trace_of(Kind::uniform, reads, 256, 1), READS / reads}, true);
-    }
+    for (size_t extents : timed_extents()) kinds(extents, true);
+    for (size_t extents : timed_extents()) kinds(extents, false);
+    growth();
+    for (size_t extents : timed_extents()) short_traces(extents);
 }

@@ -1,5 +1,5 @@
 // The benchmark: `tables SIZING PEER FOLDER ROUNDS` prints all tables, with these two programs for the listing and log
-// texts written into that folder; `alone KIND UNITS` does one kind of work.
+// texts written into that folder; `alone KIND EXTENTS UNITS` does one kind of work.
 #include "rounds.hpp"
 #include "tasks.hpp"
 
@@ -15,9 +15,9 @@ int main(int count, char **words) {
         listing_table(given[1], given[2], given[3]);
         return 0;
     }
-    if (given.size() == 3 && given[0] == "alone") {
-        lone_work(given[1], std::stoul(given[2]));
+    if (given.size() == 4 && given[0] == "alone") {
+        lone_work(given[1], std::stoul(given[2]), std::stoul(given[3]));
         return 0;
     }
-    demand(false, "usage: tables SIZING PEER FOLDER ROUNDS, or alone KIND UNITS");
+    demand(false, "usage: tables SIZING PEER FOLDER ROUNDS, or alone KIND EXTENTS UNITS");
 }

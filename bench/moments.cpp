@@ -52,11 +52,10 @@ void moment_table() {
                 "Microseconds per call, the test of soundness included, beside a plain copy of the session's words, "
                 "which tests nothing; 20,000 calls.",
                 {"call", "ours, µs", "copy, µs", "ours / copy", "spread: ours, copy"});
-    for (size_t extents : {1, 256}) {
+    for (size_t extents : {1, 256, JEMQOLU_MAX_EXTENTS}) {
         Words session = new_session();
         for (uint32_t extent : extents_of(extents, 1)) session_read(session, extent);
-        std::string name = std::to_string(extents) + (extents == 1 ? " extent" : " extents");
-        naming_row(name, session);
-        return_row(name, session);
+        naming_row(in_words(extents), session);
+        return_row(in_words(extents), session);
     }
 }

@@ -38,12 +38,17 @@ Words summary_of(const Words &reads) {
     return out;
 }
 
-Words summaries_of(size_t customers, size_t reads) {
+Words full_summary(const Words &reads, size_t extents) {
+    Words summary = summary_of(reads);
+    demand(summary[1] == extents, "a trace has fewer than " + in_words(extents));
+    return summary;
+}
+
+Words summaries_of(size_t customers, size_t reads, size_t extents) {
     std::vector<Kind> kinds = all_kinds();
     Words all;
     for (size_t i = 0; i < customers; i++) {
-        Words one = summary_of(trace_of(kinds[i % kinds.size()], reads, 256, i + 1));
-        demand(one[1] == 256, "a customer's trace has fewer than 256 extents");
+        Words one = full_summary(trace_of(kinds[i % kinds.size()], reads, extents, i + 1), extents);
         all.insert(all.end(), one.begin(), one.end());
     }
     return all;

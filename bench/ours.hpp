@@ -11,12 +11,13 @@ size_t distances(const Words &prefix, const Words &reads, Words &out);
 size_t plan(const std::string &text, const Words &log, Words &work, Words &out);
 size_t list(const std::string &text, Words &out);
 
-// The summary in a vector of its own length.
+// The summary in a vector of its own length; that of reads which must have so many extents.
 Words summary_of(const Words &reads);
+Words full_summary(const Words &reads, size_t extents);
 
-// The summaries of so many customers end to end, each of a trace of its own with 256 extents: skewed, uniform and scan
-// in turn.
-Words summaries_of(size_t customers, size_t reads);
+// The summaries of so many customers end to end, each of a trace of its own with so many extents: skewed, uniform and
+// scan in turn.
+Words summaries_of(size_t customers, size_t reads, size_t extents);
 
 // Fills `shares` from its front, a word for each least share, and answers the misses in all.
 uint32_t split(uint32_t store, const Words &leasts, const Words &summaries, Words &shares);

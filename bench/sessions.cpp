@@ -5,7 +5,7 @@
 #include <map>
 
 static const size_t READS = 50000;
-static const uint32_t SLOTS = 512;
+static const uint32_t SLOTS = 2 * JEMQOLU_MAX_EXTENTS;
 
 // The reads before those that are timed, from a new session, and the timed ones.
 struct Case {
@@ -16,12 +16,12 @@ struct Case {
 
 // Each of so many extents once, then reads of them in no order.
 static Case known_extents(size_t extents) {
-    return {"uniform over " + std::to_string(extents) + ", all known", extents_of(extents, 1),
+    return {name_of(Kind::uniform, extents) + ", all known", extents_of(extents, 1),
             trace_of(Kind::uniform, READS, extents, 1)};
 }
 
-static Case from_new(Kind kind) {
-    return {std::string(name_of(kind)) + " over 256, from a new session", {}, trace_of(kind, READS, 256, 1)};
+static Case from_new(Kind kind, size_t extents) {
+    return {name_of(kind, extents) + ", from a new session", {}, trace_of(kind, READS, extents, 1)};
 }
 
 // The slot of each extent's last read.
@@ -87,6 +87,8 @@ void session_table() {
                 "Microseconds per read, the test of soundness included, beside jemqolu_distances on the same reads; "
                 "50,000 reads.",
                 {"reads", "session, µs", "batch, µs", "session / batch", "spread: session, batch"});
-    for (size_t extents : {1, 16, 256}) row(known_extents(extents));
-    for (Kind kind : all_kinds()) row(from_new(kind));
+    for (size_t extents : {1, 16, 256, JEMQOLU_MAX_EXTENTS}) row(known_extents(extents));
+    for (size_t extents : timed_extents()) {
+        for (Kind kind : all_kinds()) row(from_new(kind, extents));
+    }
 }

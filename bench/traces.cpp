@@ -1,4 +1,5 @@
 #include "traces.hpp"
+#include "../include/jemqolu.h"
 #include <algorithm>
 #include <random>
 
@@ -12,6 +13,16 @@ const char *name_of(Kind kind) {
 }
 
 std::vector<Kind> all_kinds() { return {Kind::skewed, Kind::uniform, Kind::scan}; }
+
+std::vector<size_t> timed_extents() { return {256, JEMQOLU_MAX_EXTENTS}; }
+
+std::string in_words(size_t extents) {
+    std::string digits = std::to_string(extents);
+    if (digits.size() > 3) digits.insert(digits.size() - 3, ",");
+    return digits + (extents == 1 ? " extent" : " extents");
+}
+
+std::string name_of(Kind kind, size_t extents) { return std::string(name_of(kind)) + ", " + in_words(extents); }
 
 // A number from 0 to 1, 1 left out.
 static double draw(std::mt19937_64 &source) { return static_cast<double>(source() >> 11) / 9007199254740992.0; }

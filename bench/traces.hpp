@@ -16,6 +16,13 @@ enum class Kind {
 const char *name_of(Kind kind);
 std::vector<Kind> all_kinds();
 
+// The numbers of extents that the tables are made for, the last of them the most that a trace may have.
+std::vector<size_t> timed_extents();
+
+// A number of extents in words, and what a trace of them is called.
+std::string in_words(size_t extents);
+std::string name_of(Kind kind, size_t extents);
+
 // A trace of so many reads of the extents 0, 4096, .. 4096 (extents - 1), shuffled. Another seed gives another order of
 // the same extents, and other draws.
 Words trace_of(Kind kind, size_t reads, size_t extents, uint64_t seed);

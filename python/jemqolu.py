@@ -32,7 +32,7 @@ from jemqolu_answers import MOST as _MOST
 from jemqolu_answers import number_of as _number
 
 MAX_READS = 1_048_576
-MAX_EXTENTS = 256
+MAX_EXTENTS = 1024
 MAX_PLAN_BYTES = 65_536
 MAX_JOINS = 8
 MAX_PARTS = 16
@@ -40,27 +40,33 @@ MAX_SEG = 1_048_576
 MAX_STORE = 1024
 MAX_CUSTOMERS = 8
 MAX_NAMES = 8
+# a session's slots, and its sums: a full binary tree over them
+SLOTS = 2 * MAX_EXTENTS
+SUMS = 2 * SLOTS - 1
 SUMMARY_WORDS = 2 + 3 * MAX_EXTENTS
-LEVEL_WORDS = 1540
+# two summaries
+LEVEL_WORDS = 2 * SUMMARY_WORDS
 WORK_WORDS = LEVEL_WORDS * MAX_JOINS
-LISTING_BYTES = 8192
-SESSION_WORDS = 2049
+# more than the rows of all sizes, of 19 bytes at most, and the three lines before them
+LISTING_BYTES = 20 * MAX_EXTENTS
+# the reads, F, H, the slots, the sums and the next slot
+SESSION_WORDS = 1 + MAX_EXTENTS + MAX_EXTENTS + SLOTS + SUMS + 1
 WATCH_WORDS = 4
 NAME_WORDS = 1 + SESSION_WORDS
 NAMES_WORDS = NAME_WORDS * MAX_NAMES
 
 MEANINGS = {
     1: "a text line with which no text of the rule can go on, or an end too early",
-    2: "in a text an extent above 4,294,967,295 or a seg above 1,048,576; a read's answer given to a watch that is "
-    "neither a distance from 1 to 256 nor cold with such a number; a store above 1,024; a number of customers that is "
-    "not 1 to 8; a name that is not 1 to 8",
+    2: f"in a text an extent above {_MOST:,} or a seg above {MAX_SEG:,}; a read's answer given to a watch that is "
+    f"neither a distance from 1 to {MAX_EXTENTS:,} nor cold with such a number; a store above {MAX_STORE:,}; a number "
+    f"of customers that is not 1 to {MAX_CUSTOMERS}; a name that is not 1 to {MAX_NAMES}",
     3: "the segs of a plan do not add up to the log",
-    4: "a plan text over 65,536 bytes, a ninth join open, a seventeenth part of one join",
+    4: f"a plan text over {MAX_PLAN_BYTES:,} bytes, a ninth join open, a seventeenth part of one join",
     5: "words that are not a well-formed summary",
     6: "fewer words or bytes lent than the answer needs",
     7: "words that are not a sound session or watch, too few of them among these",
-    8: "more than 1,048,576 reads would result",
-    9: "more than 256 different extents would result",
+    8: f"more than {MAX_READS:,} reads would result",
+    9: f"more than {MAX_EXTENTS:,} different extents would result",
     10: "the least shares add up to more than the store",
     11: "a return to a name that is not set",
 }
@@ -210,7 +216,7 @@ def _apart(view, count):
 
 
 def _zeros(count, typecode="I"):
-    return array(typecode, bytes(count * array(typecode).itemsize))
+    return array(typecode, [0]) * count
 
 
 def _lend(view, held):

@@ -5,6 +5,7 @@ Run python/build first. Answers are compared with a plain count of different ext
 """
 import collections.abc
 import copy
+import functools
 import itertools
 import pickle
 import sys
@@ -46,13 +47,14 @@ def cut_in_three(log):
         yield log[:first], log[first:second], log[second:]
 
 
+# the summary of a part, made once for all logs that have it
+summary_of = functools.lru_cache(maxsize=None)(jemqolu.summarize)
+
+
 def answers_of_parts(parts):
     """The answers of the parts, each after the summary of those before it, in one list."""
-    answers, prefix = [], [0, 0]
-    for part in parts:
-        answers += jemqolu.distances(prefix, part)
-        prefix = jemqolu.join(prefix, jemqolu.summarize(part))
-    return answers
+    prefixes = itertools.accumulate(map(summary_of, parts[:-1]), jemqolu.join, initial=[0, 0])
+    return [answer for prefix, part in zip(prefixes, parts) for answer in jemqolu.distances(prefix, part)]
 
 
 class Reduced:
@@ -241,12 +243,15 @@ class Watches(Refusing):
     """What a watch takes of answers and of numbers."""
 
     def test_answers_of_a_session_and_of_distances(self):
-        for log in (LOG, LOG * 9, list(range(MAX_EXTENTS)) * 2, [5] * 8, []):
-            for size in (0, 1, 2, 3, MAX_EXTENTS, MOST):
-                one, other, session = jemqolu.Watch(size), jemqolu.Watch(size), jemqolu.Session()
-                for extent, answer in zip(log, jemqolu.distances([0, 0], log)):
-                    one.read(session.read(extent))
-                    other.read(answer)
+        sizes = (0, 1, 2, 3, MAX_EXTENTS, MOST)
+        for log in (LOG, LOG * 9, [*range(MAX_EXTENTS), *range(50)], [5] * 8, []):
+            session, answers = jemqolu.Session(), jemqolu.distances([0, 0], log)
+            told = [session.read(extent) for extent in log]
+            for size in sizes:
+                one, other = jemqolu.Watch(size), jemqolu.Watch(size)
+                for answer, same in zip(told, answers):
+                    one.read(answer)
+                    other.read(same)
                 self.assertEqual(one.words, other.words)
                 self.assertEqual((one.misses(), one.share()), (session.misses(size), session.share(size)))
 
@@ -263,14 +268,14 @@ class Watches(Refusing):
         for distance in range(1, MAX_EXTENTS + 1):
             one.read(Index(distance)), other.read(Answer.at(distance))
         one.read(True), other.read(Answer.at(1))
-        self.assertEqual((one.words, one.words.tolist()), (other.words, [2, 258, 1, 3]))
+        self.assertEqual((one.words, one.words.tolist()), (other.words, [2, MAX_EXTENTS + 2, 1, 3]))
 
     def refused_numbers(self):
         """Answers and numbers that a watch refuses, however many reads it has."""
-        above = COLD_BASE + MAX_EXTENTS + 1
-        yield from map(Answer, (0, 257, COLD_BASE - 1, COLD_BASE, above, 2 * COLD_BASE, 2 * COLD_BASE + 1, MOST))
-        yield from (Answer.at(0), Answer.at(257), Answer.newcomer(0), Answer.newcomer(257))
-        yield from (0, -1, 257, COLD_BASE, COLD_BASE + 1, above - 1, MOST, MOST + 1, MOST + 2, MOST + 2 + COLD_BASE)
+        above, cold = MAX_EXTENTS + 1, COLD_BASE + MAX_EXTENTS
+        yield from map(Answer, (0, above, COLD_BASE - 1, COLD_BASE, cold + 1, 2 * COLD_BASE, 2 * COLD_BASE + 1, MOST))
+        yield from (Answer.at(0), Answer.at(above), Answer.newcomer(0), Answer.newcomer(above))
+        yield from (0, -1, above, COLD_BASE, COLD_BASE + 1, cold, MOST, MOST + 1, MOST + 2, MOST + 2 + COLD_BASE)
         yield from (False, -MOST, 1 - COLD_BASE, 1 << 64, (1 << 64) + 1, -(1 << 200), 1 << 20_000)
         yield from (Answer.newcomer(MOST - COLD_BASE), Index(0), Index(COLD_BASE + 1))
 
@@ -281,7 +286,7 @@ class Watches(Refusing):
             self.refused(2, watch.read, given)
             self.refused(2, full.read, given)
             self.refused(7, unsound.read, given)
-        for given in (1, 256, Answer.at(1), Answer.newcomer(1), Answer.newcomer(256)):
+        for given in (1, MAX_EXTENTS, Answer.at(1), Answer.newcomer(1), Answer.newcomer(MAX_EXTENTS)):
             self.refused(8, full.read, given)
             self.refused(7, unsound.read, given)
         self.assertEqual(watch.words.tolist(), [2, 7, 3, 3])

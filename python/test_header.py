@@ -13,6 +13,11 @@ sys.dont_write_bytecode = True
 import jemqolu  # noqa: E402
 
 
+def numbers_in(text):
+    """The different numbers of a text, as they are written."""
+    return set(re.findall(r"\d+(?:,\d{3})*", text))
+
+
 class Header(unittest.TestCase):
     """What the wrapper has in common with include/jemqolu.h."""
 
@@ -27,6 +32,12 @@ class Header(unittest.TestCase):
         ours = {name: getattr(jemqolu, name) for name in defined if hasattr(jemqolu, name)}
         self.assertEqual(set(defined) - set(ours), {"STACK_BYTES"})
         self.assertEqual(ours, {name: defined[name] for name in ours})
+
+    def test_the_meanings_have_the_numbers_of_the_header(self):
+        refusals = r"^    JEMQOLU_REFUSED_\w+ = (\d+),? +/\*(.*?)\*/"
+        found = re.findall(refusals, self.text, re.DOTALL | re.MULTILINE)
+        said = {int(number): numbers_in(comment) for number, comment in found}
+        self.assertEqual({number: numbers_in(text) for number, text in jemqolu.MEANINGS.items()}, said)
 
     def test_the_arguments_are_those_of_the_header(self):
         numbers, declared = {"size_t": ctypes.c_size_t, "uint32_t": ctypes.c_uint32}, {}

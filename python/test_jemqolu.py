@@ -173,7 +173,7 @@ class Calls(Refusing):
     def test_hit_shares(self):
         for log in ([], [4, 0, 8, 1, 6], range(jemqolu.MAX_EXTENTS)):
             summary = jemqolu.summarize(log)
-            for size in (0, 1, 5, 256, MOST):
+            for size in (0, 1, 5, jemqolu.MAX_EXTENTS, MOST):
                 self.assertIsNone(jemqolu.share(summary, size))
                 self.assertEqual(jemqolu.misses(summary, size), len(log))
         self.assertEqual([jemqolu.share(SUMMARY, size) for size in (0, 1, 2, 3, 9)], [0, 1 / 4, 3 / 4, 1, 1])
@@ -182,8 +182,8 @@ class Calls(Refusing):
         session = jemqolu.Session()
         self.assertEqual((session.misses(2), session.share(2)), (0, None))
         self.assertEqual([session.read(extent).word for extent in LOG], WORDS)
-        self.assertEqual((session.sums_read, session.summary().tolist()), (7, SUMMARY))
-        for size in (0, 1, 2, 3, 4, 256, MOST):
+        self.assertEqual(session.summary().tolist(), SUMMARY)
+        for size in (0, 1, 2, 3, 4, jemqolu.MAX_EXTENTS, MOST):
             self.assertEqual(session.misses(size), jemqolu.misses(SUMMARY, size))
             self.assertEqual(session.share(size), jemqolu.share(SUMMARY, size))
         self.assertEqual(jemqolu.Session.resume(session.words).read(7).distance, 3)
@@ -200,7 +200,7 @@ class Calls(Refusing):
         self.refused(7, jemqolu.Session.resume([1] * jemqolu.SESSION_WORDS).read, 1)
         self.refused(8, jemqolu.summarize, array("I", bytes(4 * (jemqolu.MAX_READS + 1))))
         self.refused(8, jemqolu.distances, [0, 0], array("I", bytes(4 * (jemqolu.MAX_READS + 1))))
-        self.refused(9, jemqolu.summarize, range(257))
+        self.refused(9, jemqolu.summarize, range(jemqolu.MAX_EXTENTS + 1))
         self.refused(10, jemqolu.split, 2, [1, 2], [ONES, TWOS])
         self.refused(11, jemqolu.Session().return_to, 1)
         refusal = pickle.loads(pickle.dumps(jemqolu.Refusal(7)))
@@ -217,7 +217,7 @@ class Splits(Refusing):
             (9, [0, 0], [ONES, ONES], 2, [1, 1]),
             (9, [0, 7], [ONES, ONES], 2, [1, 7]),
             (0, [0], [[0, 0]], 0, [0]),
-            (1024, [0] * 8, [TWOS] * 8, 16, [2] * 8),
+            (jemqolu.MAX_STORE, [0] * 8, [TWOS] * 8, 16, [2] * 8),
         ):
             split = jemqolu.split(store, leasts, summaries)
             self.assertEqual((split.misses, split.shares), (misses, array("I", shares)))
@@ -234,9 +234,9 @@ class Splits(Refusing):
 
     def test_refusals_in_order(self):
         bad, good = [SUMMARY, TWOS[1:]], [SUMMARY, TWOS]
-        for store in (1025, MOST, MOST + 1, 1 << 64, 1 << 200):
+        for store in (jemqolu.MAX_STORE + 1, MOST, MOST + 1, 1 << 64, 1 << 200):
             self.refused(2, jemqolu.split, store, [MOST, 1], bad)
-        for customers in (0, 9, 100_000):
+        for customers in (0, 9, 20_000):
             self.refused(2, jemqolu.split, 2, [MOST] * customers, bad)
             self.refused(2, jemqolu.split, 2, [0] * customers, [TWOS] * customers)
         self.refused(5, jemqolu.split, 2, [MOST, 1], bad)
@@ -248,7 +248,7 @@ class Splits(Refusing):
         """Summaries that are refused, in the library's order, whatever their words are end to end."""
         self.refused(5, jemqolu.split, 2, [0, 0], summaries)
         self.refused(5, jemqolu.split, 2, [2, 1], summaries)
-        self.refused(2, jemqolu.split, 1025, [2, 1], summaries)
+        self.refused(2, jemqolu.split, jemqolu.MAX_STORE + 1, [2, 1], summaries)
         self.refused(2, jemqolu.split, 2, [0] * 9, summaries)
 
     def test_words_that_are_summaries_only_end_to_end(self):
@@ -256,11 +256,12 @@ class Splits(Refusing):
         for cut in range(len(whole) + 1):
             if cut != len(SUMMARY):
                 self.not_summaries([whole[:cut], array("I", whole[cut:])])
-        for summaries in ([], [whole], [SUMMARY, TWOS, []], [[], SUMMARY, TWOS], [TWOS] * 9, [TWOS] * 100_000):
+        for summaries in ([], [whole], [SUMMARY, TWOS, []], [[], SUMMARY, TWOS], [TWOS] * 9, [TWOS] * 20_000):
             self.not_summaries(summaries)
 
     def test_bad_summaries(self):
-        large, huge = [300, 257, *range(257), *range(257), 43] + [0] * 256, array("I", bytes(1 << 24))
+        extents, huge = range(jemqolu.MAX_EXTENTS + 1), array("I", bytes(1 << 24))
+        large = [len(extents) + 43, len(extents), *extents, *extents, 43] + [0] * jemqolu.MAX_EXTENTS
         for words in ([], [0], [1, 0], [0, MOST], [0, 0, 0], ONES[:4], ONES + [0], [3] + ONES[1:], large, huge):
             self.not_summaries([ONES, words])
             self.not_summaries([words, ONES])
@@ -306,7 +307,7 @@ class WrongKinds(unittest.TestCase):
             call(Index(MOST)), call(True)
 
     def test_words_out_of_place(self):
-        words = memoryview(bytearray(4 * 2050))[1 : 1 + 4 * 2049].cast("I")
+        words = memoryview(bytearray(4 * (jemqolu.SESSION_WORDS + 1)))[1:-3].cast("I")
         for call in calls_on_lent_words():
             self.assertRaises(ValueError, call, words)
         session = jemqolu.Session()
@@ -345,7 +346,7 @@ class States(unittest.TestCase):
                 self.assertRaises(TypeError, call, session)
             for call in calls_on_watches():
                 self.assertRaises(TypeError, call, watch)
-        for words in ([0] * 2049, (0,) * 2049, range(2049)):
+        for words in ([0] * jemqolu.SESSION_WORDS, (0,) * jemqolu.SESSION_WORDS, range(jemqolu.SESSION_WORDS)):
             session.words = words
             for call in calls_on_sessions():
                 self.assertRaises(TypeError, call, session)
@@ -353,7 +354,7 @@ class States(unittest.TestCase):
     def test_too_few_words(self):
         session, watch = jemqolu.Session(), jemqolu.Watch(2)
         whole = session_of(LOG).words
-        for count in (0, 1, 2, 3, 100, 2047, 2048):
+        for count in (0, 1, 2, 3, 100, jemqolu.SESSION_WORDS - 2, jemqolu.SESSION_WORDS - 1):
             session.words = whole[:count]
             for call in calls_on_sessions():
                 with self.assertRaises(jemqolu.Refusal) as caught:
@@ -383,7 +384,7 @@ class States(unittest.TestCase):
         session.words = memoryview(whole)[8:].cast("I")
         self.assertEqual(session.read(7).distance, 3)
         self.assertEqual((whole[:8], whole[-8:]), (b"\xff" * 8, b"\xff" * 8))
-        session.words = (ctypes.c_uint32 * 2049)(*session.words[:2049])
+        session.words = (ctypes.c_uint32 * jemqolu.SESSION_WORDS)(*session.words[: jemqolu.SESSION_WORDS])
         self.assertEqual((session.read(7).distance, session.misses(0)), (1, 9))
 
 
@@ -445,10 +446,10 @@ class Threads(Beside):
         self.beside(self.resizing(text, TEXT), lambda: jemqolu.listing(text), 2000)
 
     def test_a_summary_that_another_thread_writes(self):
-        words = array("I", jemqolu.summarize(range(256)))
+        words = array("I", jemqolu.summarize(range(jemqolu.MAX_EXTENTS)))
 
         def change():
-            words[1] = 2 if words[1] == 256 else 256
+            words[1] = 2 if words[1] == jemqolu.MAX_EXTENTS else jemqolu.MAX_EXTENTS
 
         self.beside(change, lambda: jemqolu.join(words, words), 300)
 
@@ -466,8 +467,8 @@ class Threads(Beside):
             session.words = few
             session.words = whole
 
-        self.beside(change, lambda: session.read(3), 2000)
-        self.beside(self.resizing(whole, whole[:]), lambda: session.read(3), 2000)
+        self.beside(change, lambda: session.read(3), 1000)
+        self.beside(self.resizing(whole, whole[:]), lambda: session.read(3), 1000)
 
     def test_calls_side_by_side(self):
         log = memoryview(array("I", LOG * 20_000).tobytes()).cast("I")

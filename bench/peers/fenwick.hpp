@@ -40,7 +40,7 @@ class FenwickTree {
 // The tree has a place for each read of the trace.
 class FenwickEngine {
   public:
-    explicit FenwickEngine(size_t count) : tree_(count) { last_.reserve(512); }
+    explicit FenwickEngine(size_t count) : tree_(count) { last_.reserve(MAX_EXTENTS); }
 
     uint32_t read(uint32_t extent) {
         auto [place, cold] = last_.try_emplace(extent, now_);

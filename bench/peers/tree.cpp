@@ -15,7 +15,7 @@ using Times = __gnu_pbds::tree<uint32_t, uint32_t, std::greater<uint32_t>, __gnu
 
 class TreeEngine {
   public:
-    explicit TreeEngine(size_t) { last_.reserve(512); }
+    explicit TreeEngine(size_t) { last_.reserve(MAX_EXTENTS); }
 
     uint32_t read(uint32_t extent) {
         auto [place, cold] = last_.try_emplace(extent, now_);

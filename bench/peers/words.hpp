@@ -11,6 +11,9 @@
 // A cold read is written as this plus its number: how many different extents the trace has had, its own included.
 constexpr uint32_t COLD_BASE = 65536;
 
+// The most different extents of a trace: what the peers that lay memory aside lay it aside for.
+constexpr size_t MAX_EXTENTS = 1024;
+
 template <class Engine> size_t summary_words(const uint32_t *reads, size_t count, uint32_t *out) {
     Engine engine(count);
     std::vector<uint32_t> first, counts;
