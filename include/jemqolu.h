@@ -137,8 +137,8 @@ int64_t jemqolu_list(const uint8_t *text, size_t text_len, uint8_t *out, size_t 
  *   words 4097..8191  4,095 sums: 2,048 leaves, 1 for a marked slot; the parent of p is 2,048 + p / 2; the last is the root
  *   word 8192         the next slot
  * Words lent past these are neither read nor written.
- * Each call on a session copies its 8 KB and tests all of it: 2 to 3 microseconds a read, however few extents it has, where
- * jemqolu_summarize and jemqolu_distances take 0.003 to 0.04 a read. Whoever has a list of reads calls those. */
+ * Each call on a session copies its 32 KB and tests all of it: 6 to 13 microseconds a read, however few extents it has, where
+ * jemqolu_summarize and jemqolu_distances take 0.003 to 0.16 a read. Whoever has a list of reads calls those. */
 
 /* A new session. Lent: 8,193 words. Answer: 8,193. Refusal: -6. */
 int64_t jemqolu_session_new(uint32_t *session, size_t session_len);

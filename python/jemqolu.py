@@ -47,8 +47,8 @@ SUMMARY_WORDS = 2 + 3 * MAX_EXTENTS
 # two summaries
 LEVEL_WORDS = 2 * SUMMARY_WORDS
 WORK_WORDS = LEVEL_WORDS * MAX_JOINS
-# more than the rows of all sizes, of 19 bytes at most, and the three lines before them
-LISTING_BYTES = 20 * MAX_EXTENTS
+# the lines before the rows of all sizes, and these rows, of at most so many bytes
+LISTING_BYTES = 64 + 23 * MAX_EXTENTS
 # the reads, F, H, the slots, the sums and the next slot
 SESSION_WORDS = 1 + MAX_EXTENTS + MAX_EXTENTS + SLOTS + SUMS + 1
 WATCH_WORDS = 4
