@@ -1,14 +1,18 @@
 //! Misses and hit shares of sessions.
 
-use jemqolu_tests::plain::session::{self, FIRSTS, SUMS, WORDS};
-use jemqolu_tests::plain::{cache, hit_share, MAX_READS};
+use jemqolu_tests::plain::session::{self, FIRSTS, SLOT, SUMS, WORDS};
+use jemqolu_tests::plain::summary::MOST_WORDS;
+use jemqolu_tests::plain::{cache, hit_share, MAX_EXTENTS, MAX_READS};
 use jemqolu_tests::random::Random;
 use jemqolu_tests::tally::Tally;
 use jemqolu_tests::{calls, made, refusal, Answer};
 
+/// The largest distance.
+const LAST: u32 = MAX_EXTENTS as u32;
+
 /// Sizes to try for a session of so many extents.
 fn sizes(extents: u32) -> [u32; 9] {
-    [0, 1, 2, extents / 2, extents, extents.wrapping_add(1), 256, 257, u32::MAX]
+    [0, 1, 2, extents / 2, extents, extents.wrapping_add(1), LAST, LAST + 1, u32::MAX]
 }
 
 /// A share as its bits, so that two that compare equal are the same number.
@@ -18,7 +22,7 @@ fn bits(share: Answer<Option<f64>>) -> Answer<Option<u64>> {
 
 /// Compares the misses and the share of a session at all sizes of interest, and with those of its summary.
 fn compare(tally: &mut Tally, words: &[u32]) {
-    let summary = calls::session_summary(words, 770);
+    let summary = calls::session_summary(words, MOST_WORDS);
     for size in sizes(words.get(SUMS.end - 1).copied().unwrap_or(0)) {
         let (misses, share) = (session::misses(words, size), session::share(words, size));
         if let Ok(summary) = &summary {
@@ -36,8 +40,8 @@ fn the_caches_that_read_a_trace() {
     let mut random = Random::new(161);
     let mut traces = made::all_traces(5, &[0, 4096, u32::MAX]);
     traces.extend((0..60).map(|_| made::trace(&mut random, 900, 40)));
-    traces.extend((0..120).map(|_| made::trace(&mut random, 1200, 256)));
-    traces.push((0..1500).map(|read| read * 7 % 256).collect());
+    traces.extend((0..120).map(|_| made::trace(&mut random, 1200, MAX_EXTENTS)));
+    traces.push((0..6 * LAST).map(|read| read * 7 % LAST).collect());
     for trace in traces {
         let mut words = calls::session_new(WORDS).expect("a new session");
         for extent in &trace {
@@ -60,9 +64,9 @@ fn sessions_that_no_trace_has() {
     for _ in 0..1500 {
         compare(&mut tally, &made::session(&mut random));
     }
-    for count in [1, 2, 255, 256] {
+    for count in [1, 2, MAX_EXTENTS - 1, MAX_EXTENTS] {
         let extents = made::extents(&mut random, count);
-        compare(&mut tally, &made::session_over(&mut random, &extents, MAX_READS as usize - count, 400));
+        compare(&mut tally, &made::session_over(&mut random, &extents, MAX_READS as usize - count, MAX_EXTENTS + 144));
     }
     tally.at_least(50_000);
 }
@@ -73,7 +77,7 @@ fn words_past_and_short_of_a_session() {
     let mut random = Random::new(163);
     for _ in 0..30 {
         let words = made::session(&mut random);
-        for len in [0, 1, 2, 256, 1024, WORDS - 2, WORDS - 1] {
+        for len in [0, 1, 2, FIRSTS.end, SLOT.end, WORDS - 2, WORDS - 1] {
             tally.same(calls::session_misses(&words[..len], 1), Err(refusal::STATE), &len);
             tally.same(calls::session_share(&words[..len], 1), Err(refusal::STATE), &len);
             compare(&mut tally, &words[..len]);

@@ -1,7 +1,8 @@
 //! One store split among customers: the shares, and the misses in all.
 
 use jemqolu_tests::plain::splits::{self, Customer, Split, MAX_CUSTOMERS, MAX_STORE};
-use jemqolu_tests::plain::{cache, session, split_tables, summary, trace, MAX_EXTENTS};
+use jemqolu_tests::plain::summary::{self, MOST_WORDS};
+use jemqolu_tests::plain::{cache, session, split_tables, trace, MAX_EXTENTS};
 use jemqolu_tests::random::Random;
 use jemqolu_tests::room::rooms;
 use jemqolu_tests::tally::Tally;
@@ -231,7 +232,7 @@ fn by_session(reads: &[u32]) -> Vec<u32> {
     for extent in reads {
         calls::session_read(&mut words, *extent).expect("a read within the limits");
     }
-    calls::session_summary(&words, 770).expect("a sound session")
+    calls::session_summary(&words, MOST_WORDS).expect("a sound session")
 }
 
 /// The join of the summaries of some parts of these reads, empty parts among them.
@@ -239,12 +240,12 @@ fn by_joins(random: &mut Random, reads: &[u32]) -> Vec<u32> {
     let (mut joined, mut left) = (vec![0, 0], reads);
     for _ in 0..random.below(5) {
         let (part, rest) = left.split_at(random.below(left.len() + 1));
-        let part = calls::summarize(part, 770).expect("a part within the limits");
-        joined = calls::join(&joined, &part, 770).expect("a join within the limits");
+        let part = calls::summarize(part, MOST_WORDS).expect("a part within the limits");
+        joined = calls::join(&joined, &part, MOST_WORDS).expect("a join within the limits");
         left = rest;
     }
-    let last = calls::summarize(left, 770).expect("a part within the limits");
-    calls::join(&joined, &last, 770).expect("a join within the limits")
+    let last = calls::summarize(left, MOST_WORDS).expect("a part within the limits");
+    calls::join(&joined, &last, MOST_WORDS).expect("a join within the limits")
 }
 
 #[test]
@@ -257,7 +258,7 @@ fn how_a_summary_was_made_does_not_show() {
         let logs = logs(&mut random, customers, 400, most);
         let leasts = made::leasts(&mut random, store, customers);
         let wanted = splits::best_of_all(store, &readers(store, &leasts, &logs));
-        let whole = |log: &Vec<u32>| calls::summarize(log, 770).expect("a log within the limits");
+        let whole = |log: &Vec<u32>| calls::summarize(log, MOST_WORDS).expect("a log within the limits");
         let ways: [Vec<u32>; 3] = [
             logs.iter().flat_map(|log| by_session(log)).collect(),
             logs.iter().flat_map(whole).collect(),

@@ -4,6 +4,9 @@ use super::trace::{self, Stack};
 use super::{texts, MAX_EXTENTS, MAX_READS};
 use crate::{refusal, Answer};
 
+/// Bytes that any listing fits into.
+pub const LISTING_BYTES: usize = 8192;
+
 /// The text of a log.
 pub fn text(trace: &[u32]) -> Vec<u8> {
     let Some((last, front)) = trace.split_last() else { return b"(trace)\n".to_vec() };
