@@ -3,8 +3,9 @@
 
 use jemqolu_tests::plain::logs::LISTING_BYTES;
 use jemqolu_tests::plain::plans::LEVEL_WORDS;
-use jemqolu_tests::plain::session::{Reading, DIGITS, READS, SLOTS, WORDS};
-use jemqolu_tests::plain::{COLD_BASE, MAX_EXTENTS};
+use jemqolu_tests::plain::session::{Reading, COUNTS, DIGITS, FIRSTS, NEXT, READS, SLOT, SLOTS, SUMS, WORDS};
+use jemqolu_tests::plain::summary::MOST_WORDS;
+use jemqolu_tests::plain::{names, COLD_BASE, MAX_EXTENTS};
 use jemqolu_tests::random::Random;
 use jemqolu_tests::{calls, made, refusal, Answer};
 
@@ -27,6 +28,15 @@ fn read_all(trace: &[u32]) -> (Vec<u32>, Vec<Answer<Reading>>) {
 /// An accepted read.
 fn reading(word: u32, sums_read: u32, slots_looked: u32) -> Answer<Reading> {
     Ok(Reading { word: word as usize, sums_read, slots_looked })
+}
+
+#[test]
+fn the_numbers_of_the_requirements() {
+    assert_eq!((MAX_EXTENTS, SLOTS, SUMS.len(), DIGITS), (1024, 2048, 4095, 11));
+    assert_eq!([FIRSTS, COUNTS, SLOT, SUMS], [1..1025, 1025..2049, 2049..4097, 4097..8192]);
+    assert_eq!((READS, NEXT, WORDS), (0, 8192, 8193));
+    assert_eq!((names::NAME_WORDS, names::WORDS), (8194, 65_552));
+    assert_eq!((MOST_WORDS, LEVEL_WORDS, LISTING_BYTES), (3074, 6148, 20_480));
 }
 
 #[test]

@@ -320,10 +320,10 @@ fn accepted_reads_set_both_places() {
 fn refused_reads_are_not_counted() {
     let mut tally = Tally::new("slots looked at with refused reads between");
     let mut random = Random::new(184);
-    let pool = made::extents(&mut random, 2 * MAX_EXTENTS);
+    let pool = made::extents(&mut random, 3 * MAX_EXTENTS);
     let mut words = calls::session_new(WORDS).expect("a new session");
     let (mut accepted, mut answers, mut moving) = (Vec::new(), Vec::new(), 0);
-    for _ in 0..20_000 {
+    for _ in 0..30_000 {
         let (extent, next) = (random.of(&pool), words[NEXT]);
         match calls::session_read(&mut words, extent) {
             Ok(reading) => {
@@ -340,5 +340,5 @@ fn refused_reads_are_not_counted() {
     for (read, wanted) in last_slots::readings(&accepted).into_iter().enumerate() {
         tally.same(answers[read], wanted, &(read, accepted[read]));
     }
-    tally.at_least(20_000);
+    tally.at_least(30_000);
 }

@@ -5,7 +5,7 @@ use super::{texts, MAX_EXTENTS, MAX_READS};
 use crate::{refusal, Answer};
 
 /// Bytes that any listing fits into.
-pub const LISTING_BYTES: usize = 8192;
+pub const LISTING_BYTES: usize = 20_480;
 
 /// The text of a log.
 pub fn text(trace: &[u32]) -> Vec<u8> {

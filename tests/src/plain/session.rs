@@ -6,7 +6,7 @@ use crate::{refusal, Answer};
 use std::ops::Range;
 
 /// The slots, a power of two.
-pub const SLOTS: usize = 512;
+pub const SLOTS: usize = 2048;
 /// The binary digits of a slot's number.
 pub const DIGITS: u32 = SLOTS.ilog2();
 
