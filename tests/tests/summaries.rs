@@ -56,8 +56,8 @@ fn every_length_to_1100() {
 }
 
 #[test]
-fn every_number_of_extents() {
-    let mut tally = Tally::new("summaries of every number of extents");
+fn many_numbers_of_extents() {
+    let mut tally = Tally::new("summaries of many numbers of extents");
     let mut random = Random::new(25);
     for count in spread::numbers_of_extents(4) {
         let extents = made::extents(&mut random, count);
@@ -66,6 +66,26 @@ fn every_number_of_extents() {
         compare(&mut tally, &[extents.clone(), extents].concat());
     }
     tally.at_least(3 * MAX_EXTENTS as u64);
+}
+
+#[test]
+fn extents_that_a_table_puts_together() {
+    let mut tally = Tally::new("summaries, distances and joins of extents that a table puts together");
+    let mut random = Random::new(26);
+    let extents = made::together(MAX_EXTENTS + 1);
+    for count in [MAX_EXTENTS - 1, MAX_EXTENTS, MAX_EXTENTS + 1] {
+        for _ in 0..4 {
+            let reads =
+                [random.shuffled(&extents[..count]), made::trace_over(&mut random, &extents[..count], 700)].concat();
+            compare(&mut tally, &reads);
+            let (front, part) = reads.split_at(random.below(MAX_EXTENTS));
+            let [a, b] = [front, &part[..700]].map(summary::of);
+            tally.same(calls::join(&a, &b, MOST_WORDS), summary::join(&a, &b), &(&a, &b));
+            let wanted = summary::distances_after(&a, part);
+            tally.same(calls::distances(&a, part, part.len()), wanted, &(&a, part));
+        }
+    }
+    tally.at_least(3 * 4 * 3);
 }
 
 #[test]
