@@ -1,5 +1,5 @@
-//! Every call on a thread with the stack that the header states, and one page for the thread itself. What each call needs at
-//! least is printed by `cargo test --release --offline --test stack -- --ignored --nocapture`.
+//! Every call on a thread with the stack that the header states, and one page for the thread itself. What each call needs
+//! at least is printed by `cargo test --release --offline --test stack -- --ignored --nocapture`.
 
 use jemqolu_tests::header::number;
 use jemqolu_tests::plain::logs::{self, LISTING_BYTES};
@@ -18,10 +18,11 @@ const THREAD_BYTES: usize = 4_096;
 /// Where the least stack of a call is sought: the call and the bytes that it has, all others having ample.
 const SOUGHT: &str = "JEMQOLU_TEST_STACK";
 /// More stack than any call needs.
-const AMPLE: usize = 1 << 24;
-/// By how much the stacks tried differ, a page, and the least that a thread has here beside what it takes itself.
+const AMPLE: usize = 1 << 20;
+/// By how much the stacks that are tried differ.
 const PAGE: usize = 4_096;
-const LEAST: usize = 3 * PAGE;
+/// The least stack that is tried; glibc gives a thread some 24 KB at least.
+const LEAST: usize = 6 * PAGE;
 
 /// The stack of a call: what the header states, or what is tried where the least is sought.
 fn stack_of(call: &str) -> usize {
@@ -143,7 +144,7 @@ const CALLS: [(&str, &[&str]); 6] = [
     ("watches", &["watch_new", "watch_read", "watch_misses", "watch_share"]),
 ];
 
-/// Whether a call in a test has enough stack with so many bytes; the test runs in a program of its own, which may end of it.
+/// Whether so many bytes of stack suffice for a call in a test, which runs in a program of its own, since too few end it.
 fn suffices(test: &str, call: &str, bytes: usize) -> bool {
     let mut program = Command::new(env::current_exe().expect("the path of this program"));
     program.args(["--exact", test]).env(SOUGHT, format!("{call} {bytes}"));
