@@ -201,8 +201,8 @@ fn levels() -> Vec<Range<usize>> {
     starts.map(|start| start..start + (SUMS.len() + 1 - start) / 2).collect()
 }
 
-/// The session with one sum in so many changed and all above it too, one at a time: the sums of this turn, and the first two
-/// and the last two of each level; how many sessions these are.
+/// The session with one sum in so many changed and all above it too, one at a time: the sums of this turn, and the first
+/// two and the last two of each level; how many sessions these are.
 pub fn sums_changed(
     random: &mut Random,
     base: &[u32],

@@ -3,8 +3,8 @@
 use crate::plain::MAX_EXTENTS;
 use std::ops::Range;
 
-/// Of these ranges, in order, the first two places and the last two of each, and one in so many of all places, from the one
-/// of this turn on; the turns from 0 on, so many of them, have every place among them.
+/// Of these ranges, in order, the first two places and the last two of each, and one in so many of all places, from the
+/// one of this turn on; the turns from 0 on, so many of them, have every place among them.
 pub fn places(ranges: &[Range<usize>], among: usize, turn: usize) -> Vec<usize> {
     let mut places: Vec<usize> = ranges.iter().cloned().flatten().skip(turn % among).step_by(among).collect();
     for range in ranges {

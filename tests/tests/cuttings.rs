@@ -29,7 +29,9 @@ fn cut(random: &mut Random, reads: &[u32], count: usize) -> Vec<Part> {
 fn all_cuttings_of_short_traces() {
     let mut tally = Tally::new("all cuttings of short traces into three parts");
     let mut random = Random::new(71);
-    for reads in made::all_traces(5, &[0, 1024, u32::MAX]) {
+    let all = made::all_traces(5, &[0, 1024, u32::MAX]);
+    // all of up to four reads, which are 121, and one in three of five
+    for reads in all[..121].iter().chain(all[121..].iter().step_by(3)) {
         for one in 0..=reads.len() {
             for other in one..=reads.len() {
                 let ends = [0, one, other, reads.len()];
@@ -39,28 +41,28 @@ fn all_cuttings_of_short_traces() {
             }
         }
     }
-    tally.at_least(50_000);
+    tally.at_least(20_000);
 }
 
 #[test]
 fn cuttings_of_random_traces() {
     let mut tally = Tally::new("cuttings of random traces");
     let mut random = Random::new(72);
-    for round in 0..240 {
+    for round in 0..60 {
         let most = [2, 20, MAX_EXTENTS][round % 3];
         let reads = made::trace(&mut random, 700, most);
         let count = 1 + random.below(12);
         let parts = cut(&mut random, &reads, count);
         compare(&mut tally, &mut random, &parts);
     }
-    tally.at_least(1900);
+    tally.at_least(60 * 8);
 }
 
 #[test]
 fn parts_with_refused_reads() {
     let mut tally = Tally::new("parts with refused reads");
     let mut random = Random::new(73);
-    for _ in 0..24 {
+    for _ in 0..8 {
         let pool = made::extents(&mut random, MAX_EXTENTS + 34);
         let list = [random.shuffled(&pool), made::trace_over(&mut random, &pool, 300)].concat();
         let (full, _) = read_calls(&list);
@@ -74,7 +76,7 @@ fn parts_with_refused_reads() {
         parts.extend(cut(&mut random, &after, 2));
         compare(&mut tally, &mut random, &parts);
     }
-    tally.at_least(216);
+    tally.at_least(8 * 9);
 }
 
 /// Compares each answer of a list of read calls with the plain session's, and the session after them with one that was
@@ -102,18 +104,16 @@ fn compare_calls(tally: &mut Tally, list: &[u32]) -> Vec<u32> {
 fn two_parts_with_refused_reads() {
     let mut tally = Tally::new("two parts, both with refused reads");
     let mut random = Random::new(76);
-    for _ in 0..12 {
-        let pool = made::extents(&mut random, 5 * MAX_EXTENTS / 4);
-        let uniform = |random: &mut Random| (0..3 * MAX_EXTENTS).map(|_| random.of(&pool)).collect::<Vec<u32>>();
-        let one = compare_calls(&mut tally, &uniform(&mut random));
-        let again = [random.shuffled(&trace::firsts(&one)), uniform(&mut random)].concat();
-        let other = compare_calls(&mut tally, &again);
-        assert!(one.len() < 3 * MAX_EXTENTS && other.len() < again.len(), "reads of both parts are refused");
-        let parts = [read_calls(&one).0, read_calls(&again).0];
-        tally.same(&parts[1].reads, &other, &again);
-        compare(&mut tally, &mut random, &parts);
-    }
-    tally.at_least(12 * 7 * MAX_EXTENTS as u64);
+    let pool = made::extents(&mut random, 5 * MAX_EXTENTS / 4);
+    let uniform = |random: &mut Random| (0..3 * MAX_EXTENTS).map(|_| random.of(&pool)).collect::<Vec<u32>>();
+    let one = compare_calls(&mut tally, &uniform(&mut random));
+    let again = [random.shuffled(&trace::firsts(&one)), uniform(&mut random)].concat();
+    let other = compare_calls(&mut tally, &again);
+    assert!(one.len() < 3 * MAX_EXTENTS && other.len() < again.len(), "reads of both parts are refused");
+    let parts = [read_calls(&one).0, read_calls(&again).0];
+    tally.same(&parts[1].reads, &other, &again);
+    compare(&mut tally, &mut random, &parts);
+    tally.at_least(7 * MAX_EXTENTS as u64);
 }
 
 #[test]

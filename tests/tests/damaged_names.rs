@@ -39,13 +39,12 @@ fn random_words(random: &mut Random, count: usize) -> Vec<u32> {
 
 /// Names up to this one, with random words at the other places and a few past it, and these words under it.
 fn names_with(random: &mut Random, name: u32, set: u32, session: &[u32]) -> Vec<u32> {
-    let past = random.below(4);
-    let mut words = random_words(random, names::place(name).end + past);
-    words[names::place(name)].copy_from_slice(&[&[set], session].concat());
-    words
+    let (before, past) = (names::place(name).start, random.below(4));
+    [&random_words(random, before)[..], &[set], session, &random_words(random, past)].concat()
 }
 
-/// Present sessions for a return, in turn, none of them sound: all 1, and a new and another one with the next slot too large.
+/// Present sessions for a return, in turn, none of them sound: all 1, and a new and another one with the next slot too
+/// large.
 fn present(turn: u32) -> Vec<u32> {
     let mut words = match turn % 3 {
         0 => return vec![1; WORDS],
@@ -224,6 +223,7 @@ fn sessions_of_other_lengths() {
 fn every_word_changed() {
     let (mut tally, mut seen) = (Tally::new("named sessions with one word changed"), Seen::default());
     let (mut random, mut changes) = (Random::new(187), Random::new(188));
+    // each word is changed in one of the bases, the first two and the last two of each field in all
     let bases = damage::bases();
     for (turn, base) in bases.iter().enumerate() {
         compare(&mut tally, &mut random, &mut seen, base, 8);
@@ -264,6 +264,7 @@ fn each_clause_broken_alone() {
 fn every_sum_changed_with_all_above_it() {
     let (mut tally, mut seen) = (Tally::new("named sessions with a sum wrong and all above it right"), Seen::default());
     let (mut random, mut changes) = (Random::new(191), Random::new(192));
+    // each sum is changed in one of the bases, the first two and the last two of each level in all
     let mut damaged = 0;
     for (turn, base) in damage::bases().iter().take(3).enumerate() {
         damaged += damage::sums_changed(&mut changes, base, 3, turn, |words| {

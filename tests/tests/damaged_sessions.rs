@@ -39,6 +39,7 @@ fn compare(tally: &mut Tally, seen: &mut Seen, words: &[u32], extent: u32) {
 fn every_word_changed() {
     let (mut tally, mut seen) = (Tally::new("sessions with one word changed"), Seen::default());
     let mut random = Random::new(92);
+    // each word is changed in one of the bases, the first two and the last two of each field in all
     let bases = damage::bases();
     for (turn, base) in bases.iter().enumerate() {
         let extent = random.of(&base[FIRSTS]);
@@ -65,14 +66,14 @@ fn lengths_around_a_session() {
 fn several_words_changed() {
     let (mut tally, mut seen) = (Tally::new("sessions with several words changed"), Seen::default());
     let mut random = Random::new(93);
-    for _ in 0..8000 {
+    for _ in 0..4000 {
         let words = damage::several_words_changed(&mut random);
         let (known, new) = (random.of(&words[FIRSTS]), random.word());
         let extent = random.of(&[known, known, new]);
         compare(&mut tally, &mut seen, &words, extent);
     }
-    assert!(seen.sound >= 1500 && seen.refused >= 2500, "{} sound, {} refused", seen.sound, seen.refused);
-    tally.at_least(40_000);
+    assert!(seen.sound >= 750 && seen.refused >= 1250, "{} sound, {} refused", seen.sound, seen.refused);
+    tally.at_least(4000 * 5);
 }
 
 #[test]
@@ -90,6 +91,7 @@ fn each_clause_broken_alone() {
 fn every_sum_changed_with_all_above_it() {
     let (mut tally, mut seen) = (Tally::new("sessions with one sum wrong and all above it right"), Seen::default());
     let mut random = Random::new(94);
+    // each sum is changed in one of the bases, the first two and the last two of each level in all
     let mut damaged = 0;
     for (turn, base) in damage::bases().iter().take(6).enumerate() {
         let extent = base[FIRSTS.start];

@@ -95,8 +95,8 @@ fn words_that_no_trace_has() {
 }
 
 #[test]
-fn every_number_of_extents() {
-    let mut tally = Tally::new("joins of every number of extents");
+fn many_numbers_of_extents() {
+    let mut tally = Tally::new("joins of many numbers of extents");
     let mut random = Random::new(37);
     for count in spread::numbers_of_extents(16) {
         let pool = made::extents(&mut random, MAX_EXTENTS);
@@ -115,9 +115,9 @@ fn at_the_limit_of_extents() {
     let mut random = Random::new(33);
     let mut refused = 0;
     let (all, half, most) = (MAX_EXTENTS, MAX_EXTENTS / 2, MAX_EXTENTS - 56);
-    let with_few = [(half, half, 0), (half, half + 1, 1), (all, 0, 0), (0, all, 0), (all, 1, 1)];
-    let past = [(half, half + 1, 0), (all, 1, 0), (1, all, 0), (most, most, all - 113), (all, all, 0)];
-    for (of_a, of_b, shared) in with_few.into_iter().chain([(all, all, all), (most, most, all - 112)]).chain(past) {
+    let within = [(half, half, 0), (half, half + 1, 1), (most, most, all - 112), (all, 1, 1), (all, all, all)];
+    let past = [(half, half + 1, 0), (most, most, all - 113), (all, 1, 0), (1, all, 0), (all, all, 0)];
+    for (of_a, of_b, shared) in within.into_iter().chain([(all, 0, 0), (0, all, 0)]).chain(past) {
         for _ in 0..6 {
             let pool = made::extents(&mut random, of_a + of_b - shared);
             let a = made::summary_over(&mut random, &pool[..of_a], 50);

@@ -38,7 +38,7 @@ fn every_trace_has_the_numbers_from_1_in_order() {
     let mut tally = Tally::new("numbers of sessions and of whole traces");
     let mut random = Random::new(171);
     let mut traces = made::all_traces(6, &[0, 4096, u32::MAX]);
-    traces.extend((0..150).map(|_| made::trace(&mut random, 900, MAX_EXTENTS)));
+    traces.extend((0..50).map(|_| made::trace(&mut random, 900, MAX_EXTENTS)));
     for reads in traces {
         let (answers, words) = read_all(&reads);
         let all: Vec<u32> = (1..=trace::different(&reads) as u32).collect();

@@ -30,7 +30,7 @@ fn log_for(random: &mut Random, plan: &Plan, most_extents: usize) -> Vec<u32> {
 fn plans_of_all_depths() {
     let mut tally = Tally::new("plans of all depths");
     let mut random = Random::new(111);
-    for round in 0..450 {
+    for round in 0..180 {
         let plan = made::plan(&mut random, round % (MAX_DEPTH + 1));
         let log = log_for(&mut random, &plan, 20);
         let carried = calls::plan(&plan.text(), &log, LEVEL_WORDS * plan.depth(), MOST_WORDS);
@@ -38,7 +38,7 @@ fn plans_of_all_depths() {
         tally.same(carried, Ok(wanted), &(&plan, &log));
         compare(&mut tally, &plan.text(), &log);
     }
-    tally.at_least(4000);
+    tally.at_least(180 * 9);
 }
 
 /// All plans of up to this depth whose segs are of 0, 1 or 2 reads, and whose joins have two parts, the innermost ones
@@ -100,7 +100,7 @@ fn plans_of_larger_segs() {
     let mut tally = Tally::new("plans of larger segs, on logs of few and of many extents");
     let mut random = Random::new(116);
     let (mut carried, mut refused) = (0, 0);
-    for round in 0..270 {
+    for round in 0..135 {
         let plan = made::plan(&mut random, round % (MAX_DEPTH + 1));
         let segs = plan.text().iter().filter(|byte| **byte == b'g').count();
         let plan = with_segs(&mut random, &plan, 20 + 5 * MAX_EXTENTS / segs);
@@ -111,8 +111,8 @@ fn plans_of_larger_segs() {
         }
         compare(&mut tally, &plan.text(), &log);
     }
-    assert!(carried >= 100 && refused >= 30, "{carried} carried out, {refused} refused");
-    tally.at_least(2100);
+    assert!(carried >= 50 && refused >= 15, "{carried} carried out, {refused} refused");
+    tally.at_least(135 * 8);
 }
 
 #[test]

@@ -39,8 +39,8 @@ fn the_caches_that_read_a_trace() {
     let mut tally = Tally::new("misses and shares of sessions, and caches");
     let mut random = Random::new(161);
     let mut traces = made::all_traces(5, &[0, 4096, u32::MAX]);
-    traces.extend((0..60).map(|_| made::trace(&mut random, 900, 40)));
-    traces.extend((0..120).map(|_| made::trace(&mut random, 1200, MAX_EXTENTS)));
+    traces.extend((0..20).map(|_| made::trace(&mut random, 900, 40)));
+    traces.extend((0..30).map(|_| made::trace(&mut random, 1200, MAX_EXTENTS)));
     traces.push((0..6 * LAST).map(|read| read * 7 % LAST).collect());
     for trace in traces {
         let mut words = calls::session_new(WORDS).expect("a new session");
@@ -54,21 +54,22 @@ fn the_caches_that_read_a_trace() {
             tally.same(bits(calls::session_share(&words, size)), bits(Ok(share)), &(&trace, size));
         }
     }
-    tally.at_least(9500);
+    // the short traces, those above and one more, at nine sizes
+    tally.at_least((364 + 20 + 30 + 1) * 9 * 2);
 }
 
 #[test]
 fn sessions_that_no_trace_has() {
     let mut tally = Tally::new("misses and shares of sessions that no trace has");
     let mut random = Random::new(162);
-    for _ in 0..1500 {
+    for _ in 0..700 {
         compare(&mut tally, &made::session(&mut random));
     }
     for count in [1, 2, MAX_EXTENTS - 1, MAX_EXTENTS] {
         let extents = made::extents(&mut random, count);
         compare(&mut tally, &made::session_over(&mut random, &extents, MAX_READS as usize - count, MAX_EXTENTS + 144));
     }
-    tally.at_least(50_000);
+    tally.at_least(704 * 9 * 4);
 }
 
 #[test]
@@ -94,7 +95,7 @@ fn sessions_that_are_not_sound() {
     let mut tally = Tally::new("misses and shares of sessions that are not sound");
     let mut random = Random::new(164);
     let mut refused = 0;
-    for _ in 0..1500 {
+    for _ in 0..900 {
         let mut words = made::session(&mut random);
         let any = random.below(WORDS);
         let place = random.of(&[0, FIRSTS.start, any, any, SUMS.end - 1, WORDS - 1]);
@@ -102,6 +103,6 @@ fn sessions_that_are_not_sound() {
         refused += u32::from(session::misses(&words, 1) == Err(refusal::STATE));
         compare(&mut tally, &words);
     }
-    assert!(refused > 1000, "{refused} refused");
-    tally.at_least(25_000);
+    assert!(refused > 600, "{refused} refused");
+    tally.at_least(900 * 9 * 2);
 }

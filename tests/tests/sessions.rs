@@ -75,7 +75,7 @@ fn all_short_traces_before_and_after_the_marks_move() {
 fn random_traces() {
     let mut tally = Tally::new("sessions of random traces");
     let mut random = Random::new(82);
-    for round in 0..30 {
+    for round in 0..12 {
         let most = [3, 40, MAX_EXTENTS][round % 3];
         let trace = made::trace(&mut random, 2 * SLOTS + 376, most);
         let mut words = calls::session_new(WORDS).expect("a new session");
@@ -85,7 +85,7 @@ fn random_traces() {
         compare_summary(&mut tally, &words);
         tally.same(calls::session_summary(&words, MOST_WORDS), Ok(summary::of(&trace)), &trace);
     }
-    tally.at_least(40 * SLOTS as u64);
+    tally.at_least(12 * SLOTS as u64);
 }
 
 #[test]

@@ -12,13 +12,13 @@ use std::sync::OnceLock;
 const KINDS: usize = 10;
 /// The reads of each long log.
 const LONG: usize = 6 * SLOTS;
-/// The moves of the marks in a long log at least: once all slots were next, one in as many reads as there are slots.
+/// The fewest moves of the marks in a long log: one in as many reads as there are slots, but for the first so many.
 const MOVES: usize = LONG / SLOTS - 1;
 /// What may stand in the places for the sums read and the slots looked at before a read.
 const PLACES: [[u32; 2]; 4] = [[77, 78], [0, 0], [u32::MAX, 1], [1, u32::MAX]];
 
-/// Which of as many extents as a log may have a read of a long log is of. The kinds: one extent, 3, 40 or all of them at
-/// random, skewed, a scan of all or of all but one, a scan there and back, one extent more every 37 reads, or in phases.
+/// Which of all extents that a log may have a read of a long log is of. The kinds: one extent, 3, 40 or all of them at
+/// random, skewed, a scan of all or of all but one, a scan there and back, more and more extents, or in phases.
 fn place(random: &mut Random, kind: usize, read: usize) -> usize {
     let there_and_back = 2 * (MAX_EXTENTS - 1);
     match kind {
@@ -30,7 +30,7 @@ fn place(random: &mut Random, kind: usize, read: usize) -> usize {
         5 => read % MAX_EXTENTS,
         6 => read % (MAX_EXTENTS - 1),
         7 => (read % there_and_back).min(there_and_back - read % there_and_back),
-        8 => random.below((1 + read / 37).min(MAX_EXTENTS)),
+        8 => random.below((1 + read * MAX_EXTENTS / (LONG - SLOTS)).min(MAX_EXTENTS)),
         _ => (read / 700 * 31 + random.below(9)) % MAX_EXTENTS,
     }
 }
@@ -51,24 +51,40 @@ struct Found {
     next: u32,
 }
 
+/// One more read of a session, and what it found.
+fn read_one(words: &mut [u32], extent: u32) -> Found {
+    let reading = calls::session_read(words, extent).expect("a read within the limits");
+    Found { reading, next: words[NEXT] - 1 }
+}
+
 /// The session that has read a log, from a new one, and what each read found.
 fn read_all(reads: &[u32]) -> (Vec<u32>, Vec<Found>) {
     let mut words = calls::session_new(WORDS).expect("a new session");
-    let read = |extent: &u32| {
-        let reading = calls::session_read(&mut words, *extent).expect("a read within the limits");
-        Found { reading, next: words[NEXT] - 1 }
-    };
-    let found = reads.iter().map(read).collect();
+    let found = reads.iter().map(|extent| read_one(&mut words, *extent)).collect();
     (words, found)
 }
 
-/// The long logs with what each read of them found, read once for all tests.
-fn long_runs() -> &'static [(Vec<u32>, Vec<Found>)] {
-    static RUNS: OnceLock<Vec<(Vec<u32>, Vec<Found>)>> = OnceLock::new();
-    let run = |reads: Vec<u32>| {
-        let (_, found) = read_all(&reads);
-        (reads, found)
-    };
+/// A long log, what each read of it found, and the plain session's answers, with whether both have the same words then.
+struct Run {
+    reads: Vec<u32>,
+    found: Vec<Found>,
+    plain: Vec<(Reading, bool)>,
+}
+
+/// A long log read by a session and by the plain one beside it.
+fn run(reads: Vec<u32>) -> Run {
+    let (mut words, mut wanted) = (calls::session_new(WORDS).expect("a new session"), session::new());
+    let (mut found, mut plain) = (Vec::new(), Vec::new());
+    for extent in &reads {
+        found.push(read_one(&mut words, *extent));
+        plain.push((session::accept(&mut wanted, *extent), words == wanted));
+    }
+    Run { reads, found, plain }
+}
+
+/// The long logs, read once for all tests.
+fn long_runs() -> &'static [Run] {
+    static RUNS: OnceLock<Vec<Run>> = OnceLock::new();
     RUNS.get_or_init(|| long_logs().into_iter().map(run).collect())
 }
 
@@ -87,7 +103,7 @@ fn read_into(words: &mut [u32], extent: u32, places: [u32; 2]) -> (Answer<usize>
 #[test]
 fn long_logs_by_the_log_alone() {
     let mut tally = Tally::new("answers of long logs by the log alone");
-    for (kind, (reads, found)) in long_runs().iter().enumerate() {
+    for (kind, Run { reads, found, .. }) in long_runs().iter().enumerate() {
         for (read, wanted) in last_slots::readings(reads).into_iter().enumerate() {
             tally.same(found[read].reading, wanted, &(kind, read, reads[read]));
         }
@@ -120,7 +136,7 @@ fn counted(reads: &[u32]) -> Vec<u32> {
 #[test]
 fn long_logs_counted_on_the_reads() {
     let mut tally = Tally::new("slots looked at, counted on the reads");
-    for (kind, (reads, found)) in long_runs().iter().enumerate() {
+    for (kind, Run { reads, found, .. }) in long_runs().iter().enumerate() {
         for (read, wanted) in counted(reads).into_iter().enumerate() {
             tally.same(found[read].reading.slots_looked, wanted, &(kind, read, reads[read]));
         }
@@ -131,15 +147,13 @@ fn long_logs_counted_on_the_reads() {
 #[test]
 fn long_logs_and_the_plain_session() {
     let mut tally = Tally::new("distances, numbers, sums read and words of long logs");
-    for (kind, reads) in long_logs().iter().enumerate() {
-        let (mut words, mut wanted) = (calls::session_new(WORDS).expect("a new session"), session::new());
+    for (kind, Run { reads, found, plain }) in long_runs().iter().enumerate() {
         let distances = calls::distances(&[0, 0], reads, LONG).expect("a trace within the limits");
-        for (read, extent) in reads.iter().enumerate() {
-            let got = calls::session_read(&mut words, *extent).expect("a read within the limits");
-            let plain = session::accept(&mut wanted, *extent);
-            tally.same((got.word, got.sums_read), (plain.word, plain.sums_read), &(kind, read));
+        for (read, (wanted, same_words)) in plain.iter().enumerate() {
+            let got = found[read].reading;
+            tally.same((got.word, got.sums_read), (wanted.word, wanted.sums_read), &(kind, read));
             tally.same(got.word as u32, distances[read], &(kind, read));
-            tally.same(words == wanted, true, &(kind, read));
+            tally.same(*same_words, true, &(kind, read));
         }
     }
     tally.at_least((3 * KINDS * LONG) as u64);
@@ -149,7 +163,7 @@ fn long_logs_and_the_plain_session() {
 fn laws_of_long_logs() {
     let mut tally = Tally::new("laws of the slots looked at");
     let (mut cold, mut again, mut again_moved, mut any_moved) = (0, 0, 0, 0);
-    for (kind, (reads, found)) in long_runs().iter().enumerate() {
+    for (kind, Run { reads, found, .. }) in long_runs().iter().enumerate() {
         for (read, Found { reading, next }) in found.iter().enumerate() {
             let (slots_looked, context) = (reading.slots_looked, (kind, read, reading, next));
             tally.same(slots_looked <= *next && *next < SLOTS as u32, true, &context);
@@ -173,7 +187,7 @@ fn laws_of_long_logs() {
     // the log of one extent is read again at all its moves, that of three at a third of its reads
     let seen = (again, again_moved, any_moved);
     assert!(again >= 5 * LONG / 4 && again_moved >= MOVES && any_moved >= KINDS * MOVES / 2, "{seen:?}");
-    tally.same(cold, long_runs().iter().map(|(reads, _)| trace::different(reads)).sum(), &seen);
+    tally.same(cold, long_runs().iter().map(|run| trace::different(&run.reads)).sum(), &seen);
     tally.at_least((2 * KINDS * LONG + again) as u64);
 }
 
@@ -184,7 +198,7 @@ fn one_extent_across_moves_of_the_marks() {
     let at = |read: usize| (found[read - 1].reading, found[read - 1].next);
     let warm = |sums_read: u32| Reading { word: 1, sums_read, slots_looked: 1 };
     tally.same(at(1), (Reading { word: COLD_BASE as usize + 1, sums_read: 0, slots_looked: 0 }, 0), &1);
-    // the first read has slot 0 alone, and with each move of the marks the read before it has slot 0 again
+    // the second read finds the mark in slot 0, and so does each read before which the marks move
     for read in 2..=found.len() {
         let next = 1 + (read - 2) % (SLOTS - 1);
         tally.same(at(read), (warm(zeros(next - 1)), next as u32), &read);
@@ -200,7 +214,7 @@ fn one_extent_across_moves_of_the_marks() {
 fn every_extent_straight_after_the_marks_moved() {
     let mut tally = Tally::new("reads of every extent straight after the marks moved");
     for v in spread::numbers_of_extents(MAX_EXTENTS / 8).into_iter().filter(|v| *v > 0) {
-        let (words, _) = read_all(&(0..SLOTS).map(|read| (read % v) as u32).collect::<Vec<u32>>());
+        let words = session::of(&(0..SLOTS).map(|read| (read % v) as u32).collect::<Vec<u32>>());
         assert_eq!(words[NEXT] as usize, SLOTS, "the marks move before the next read");
         for distance in spread::places(&[1..v + 1], 1 + v / 40, v) {
             let extent = (SLOTS - distance) % v;

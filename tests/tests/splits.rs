@@ -188,18 +188,20 @@ fn large_logs() {
 fn the_caches_of_a_large_store() {
     let mut tally = Tally::new("splits of the largest store, and caches");
     let mut random = Random::new(177);
-    for _ in 0..3 {
-        let logs: Vec<Vec<u32>> = (0..MAX_CUSTOMERS)
-            .map(|_| {
-                let extents = made::extents(&mut random, MAX_EXTENTS);
-                [extents.clone(), made::trace_over(&mut random, &extents, 300)].concat()
-            })
-            .collect();
-        let leasts = [0, 100, 0, 300, 0, 1, 2, 0];
-        let wanted = split_tables::best(MAX_STORE, &readers(MAX_STORE, &leasts, &logs));
+    // two customers with all extents that a log may have, the others with a quarter
+    let logs: Vec<Vec<u32>> = (0..MAX_CUSTOMERS)
+        .map(|customer| {
+            let extents = made::extents(&mut random, if customer < 2 { MAX_EXTENTS } else { MAX_EXTENTS / 4 });
+            [extents.clone(), made::trace_over(&mut random, &extents, 300)].concat()
+        })
+        .collect();
+    let mut customers = readers(MAX_STORE, &[0; MAX_CUSTOMERS], &logs);
+    for leasts in [[0; MAX_CUSTOMERS], [0, 100, 0, 300, 0, 1, 2, 0]] {
+        customers.iter_mut().zip(leasts).for_each(|(customer, least)| customer.least = least);
+        let wanted = split_tables::best(MAX_STORE, &customers);
         compare(&mut tally, MAX_STORE, &leasts, &summaries_of(&logs), &wanted);
     }
-    tally.at_least(15);
+    tally.at_least(2 * 5);
 }
 
 #[test]
@@ -252,7 +254,7 @@ fn by_joins(random: &mut Random, reads: &[u32]) -> Vec<u32> {
 fn how_a_summary_was_made_does_not_show() {
     let mut tally = Tally::new("splits by sessions, by one call and by joins");
     let mut random = Random::new(179);
-    for round in 0..150 {
+    for round in 0..60 {
         let (customers, most) = (1 + random.below(4), [4, 30, MAX_EXTENTS][round % 3]);
         let store = random.below(12) as u32;
         let logs = logs(&mut random, customers, 400, most);
@@ -268,5 +270,5 @@ fn how_a_summary_was_made_does_not_show() {
             compare(&mut tally, store, &leasts, &summaries, &wanted);
         }
     }
-    tally.at_least(1800);
+    tally.at_least(60 * 3 * 4);
 }

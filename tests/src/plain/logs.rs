@@ -80,12 +80,14 @@ pub fn read(text: &[u8]) -> Answer<Vec<u32>> {
 
 /// The listing of a log.
 pub fn listing(trace: &[u32]) -> Vec<u8> {
-    let words = Stack(Vec::new()).distances(trace);
+    let mut words = Stack(Vec::new()).distances(trace);
+    words.sort_unstable();
     let cold = words.iter().filter(|word| trace::is_cold(**word)).count();
     let mut rows = vec![format!("(reads {})", trace.len()), format!("(cold {cold})")];
     for size in 1..=trace::firsts(trace).len() as u32 {
-        let misses = words.iter().filter(|word| !trace::is_hit(**word, size)).count();
-        rows.push(format!("(at {size} {misses})"));
+        // the words of cold reads are the largest, so the hits come first
+        let hits = words.partition_point(|word| trace::is_hit(*word, size));
+        rows.push(format!("(at {size} {})", words.len() - hits));
     }
     format!("(sizing\n {})\n", rows.join("\n ")).into_bytes()
 }

@@ -1,7 +1,6 @@
 //! Sessions as words, in slots and sums.
 
-use super::{hit_share, COLD_BASE, MAX_EXTENTS, MAX_READS};
-use super::{summary, trace};
+use super::{hit_share, summary, trace, COLD_BASE, MAX_EXTENTS, MAX_READS};
 use crate::{refusal, Answer};
 use std::ops::Range;
 
@@ -80,8 +79,8 @@ fn marks_sound(words: &[u32]) -> bool {
 /// Different extents in the marked slots, and 0 in the others.
 fn slots_sound(words: &[u32]) -> bool {
     let extents = marked(words);
-    let rightly = |slot: usize| words[SUMS][slot] == 1 || words[SLOT][slot] == 0;
-    trace::different(&extents) == extents.len() && (0..SLOTS).all(rightly)
+    let others_empty = (0..SLOTS).all(|slot| words[SUMS][slot] == 1 || words[SLOT][slot] == 0);
+    trace::different(&extents) == extents.len() && others_empty
 }
 
 /// F has the extents of the marked slots once each, and 0 after them.

@@ -62,12 +62,13 @@ pub fn well_formed(words: &[u32]) -> Option<Summary<'_>> {
 /// The distances of the first reads in B of the extents that A has too, in the order of F of B: 1 plus the number of
 /// different extents that stand before it in R of A or before it in F of B.
 pub fn distances_across(a: &Summary, b: &Summary) -> Vec<usize> {
-    let (place, nowhere): (HashMap<u32, usize>, usize) =
-        (a.recents.iter().copied().zip(0..).collect(), a.recents.len());
-    let places: Vec<usize> = b.firsts.iter().map(|extent| place.get(extent).copied().unwrap_or(nowhere)).collect();
+    let in_a: HashMap<u32, usize> = a.recents.iter().copied().zip(0..).collect();
+    let nowhere = a.recents.len();
+    let places: Vec<usize> = b.firsts.iter().map(|extent| in_a.get(extent).copied().unwrap_or(nowhere)).collect();
     let shared = (0..places.len()).filter(|read| places[*read] != nowhere);
     // all before it in R of A, and of those before it in F of B the ones that stand after it in R of A or not there
-    shared.map(|read| 1 + places[read] + places[..read].iter().filter(|other| **other > places[read]).count()).collect()
+    let others = |read: usize| places[..read].iter().filter(|place| **place > places[read]).count();
+    shared.map(|read| 1 + places[read] + others(read)).collect()
 }
 
 /// The join of A, then B.
