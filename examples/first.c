@@ -136,7 +136,7 @@ static void print_refusals(const uint32_t *summary, size_t count) {
     static uint32_t many[JEMQOLU_MAX_EXTENTS + 1];
     uint32_t out[JEMQOLU_SUMMARY_WORDS];
     for (uint32_t i = 0; i <= JEMQOLU_MAX_EXTENTS; i++) many[i] = i;
-    printf("257 extents: %" PRId64 "\n",
+    printf("%d extents: %" PRId64 "\n", JEMQOLU_MAX_EXTENTS + 1,
            jemqolu_summarize(many, JEMQOLU_MAX_EXTENTS + 1, out, JEMQOLU_SUMMARY_WORDS));
     printf("a summary without its last word: %" PRId64 "\n", jemqolu_misses(summary, count - 1, 2));
     if (jemqolu_join(summary, count, summary, count, out, 3) == -JEMQOLU_REFUSED_ROOM) {

@@ -1,9 +1,16 @@
 //! Sessions to damage, sessions damaged in all ways, and a count of them.
 
-use crate::made;
-use crate::plain::session::{self, COUNTS, FIRSTS, NEXT, READS, SLOT, SLOTS, SUMS, WORDS};
-use crate::plain::MAX_READS;
+use crate::plain::session::{self, COUNTS, DIGITS, FIRSTS, NEXT, READS, SLOT, SLOTS, SUMS, WORDS};
+use crate::plain::{MAX_EXTENTS, MAX_READS};
 use crate::random::Random;
+use crate::{made, spread};
+use std::ops::Range;
+
+/// Where each field of a session stands, the leaves and the other sums apart.
+const FIELDS: [Range<usize>; 7] =
+    [READS..FIRSTS.start, FIRSTS, COUNTS, SLOT, SUMS.start..PARENTS, PARENTS..SUMS.end, NEXT..WORDS];
+/// Where the sums above the leaves stand.
+const PARENTS: usize = SUMS.start + SLOTS;
 
 /// How many of the sessions handed in were sound, and how many were not.
 #[derive(Default)]
@@ -23,21 +30,27 @@ impl Seen {
     }
 }
 
-/// Sessions to damage: new, with few extents, with 255 and 256, with the marks about to move, and with all reads taken.
+/// Sessions to damage: new, with few extents, with all that a log may have and with all but one, with the marks about to
+/// move, and with all reads taken.
 pub fn bases() -> Vec<Vec<u32>> {
-    let mut random = Random::new(91);
-    let mut bases =
-        vec![session::new(), session::of(&[7, 3, 7, 9, 3, 3, 9]), session::of(&[5; 512]), session::of(&[0; 514])];
-    bases.push(session::of(&(0..256).collect::<Vec<u32>>()));
-    for (count, warm, next) in [(20, 100, 60), (256, 800, 512), (3, 9, 512), (130, 4, 300)] {
+    let (mut random, all) = (Random::new(91), MAX_EXTENTS as u32);
+    let mut bases = vec![
+        session::new(),
+        session::of(&[7, 3, 7, 9, 3, 3, 9]),
+        session::of(&[5; SLOTS]),
+        session::of(&[0; SLOTS + 2]),
+    ];
+    bases.push(session::of(&(0..all).collect::<Vec<u32>>()));
+    let half = (MAX_EXTENTS / 2 + 2, 4, MAX_EXTENTS + 44);
+    for (count, warm, next) in [(20, 100, 60), (MAX_EXTENTS, 800, SLOTS), (3, 9, SLOTS), half] {
         let extents = made::extents(&mut random, count);
         bases.push(made::session_over(&mut random, &extents, warm, next));
     }
-    for (apart, next) in [(1024, 400), (4096, 256)] {
-        let extents: Vec<u32> = (0..256).map(|place| place * apart).collect();
-        bases.push(made::session_over(&mut random, &extents, MAX_READS as usize - 256, next));
+    for (apart, next) in [(1024, MAX_EXTENTS + 144), (4096, MAX_EXTENTS)] {
+        let extents: Vec<u32> = (0..all).map(|place| place * apart).collect();
+        bases.push(made::session_over(&mut random, &extents, MAX_READS as usize - MAX_EXTENTS, next));
     }
-    bases.push(session::of(&(1000..1255).collect::<Vec<u32>>()));
+    bases.push(session::of(&(1000..999 + all).collect::<Vec<u32>>()));
     bases
 }
 
@@ -49,10 +62,11 @@ fn change_of(random: &mut Random, words: &[u32], place: usize) -> [u32; 2] {
     [near, other]
 }
 
-/// The session with each word changed in two ways, one at a time.
-pub fn each_word_changed(random: &mut Random, base: &[u32], mut visit: impl FnMut(&[u32])) {
+/// The session with one word in so many changed in two ways, one at a time: the words of this turn, and the first two and
+/// the last two of each field.
+pub fn words_changed(random: &mut Random, base: &[u32], among: usize, turn: usize, mut visit: impl FnMut(&[u32])) {
     let mut words = base.to_vec();
-    for place in 0..WORDS {
+    for place in spread::places(&FIELDS, among, turn) {
         for change in change_of(random, base, place) {
             words[place] = change;
             visit(&words);
@@ -63,18 +77,30 @@ pub fn each_word_changed(random: &mut Random, base: &[u32], mut visit: impl FnMu
 
 /// The session cut short, whole, and with words past it.
 pub fn lengths(base: &[u32]) -> Vec<Vec<u32>> {
-    let cut = [0, 1, 512, 1024, 2047, 2048, 2049].map(|len| base[..len].to_vec());
+    let cut = [0, 1, SLOT.start, SUMS.start, WORDS - 2, WORDS - 1, WORDS].map(|len| base[..len].to_vec());
     let longer = [&[0][..], &[1], &[u32::MAX; 3], &[5; 100]].map(|past| [base, past].concat());
     cut.into_iter().chain(longer).collect()
 }
 
+/// A number below a bound: any, or as often one of these few.
+fn any_or_of(random: &mut Random, bound: usize, few: &[usize]) -> usize {
+    let any = random.below(bound);
+    if few.is_empty() || random.one_in(2) {
+        any
+    } else {
+        random.of(few)
+    }
+}
+
 /// Changes words of a session by one of twelve rules.
 fn change(random: &mut Random, words: &mut [u32], rule: usize) {
-    let (one, other) = (random.below(SLOTS), random.below(SLOTS));
-    let (first, second) = (FIRSTS.start + one / 2, FIRSTS.start + other / 2);
+    let marks = session::marks(words);
+    let extents: Vec<usize> = (0..marks.len().min(MAX_EXTENTS)).collect();
+    let [one, other] = [0, 1].map(|_| any_or_of(random, SLOTS, &marks));
+    let [first, second] = [0, 1].map(|_| any_or_of(random, MAX_EXTENTS, &extents));
     match rule {
-        0 => words.swap(first, second),
-        1 => words.swap(COUNTS.start + one / 2, COUNTS.start + other / 2),
+        0 => words.swap(FIRSTS.start + first, FIRSTS.start + second),
+        1 => words.swap(COUNTS.start + first, COUNTS.start + second),
         2 => words.swap(SLOT.start + one, SLOT.start + other),
         3 => words.swap(SUMS.start + one, SUMS.start + other),
         4 => {
@@ -84,20 +110,17 @@ fn change(random: &mut Random, words: &mut [u32], rule: usize) {
         }
         5 => {
             words[READS] = words[READS].wrapping_add(1);
-            words[COUNTS.start + one / 2] += 1;
+            words[COUNTS.start + first] += 1;
         }
         6 => words[NEXT] = random.below(SLOTS + 2) as u32,
         7 => {
             words[SUMS.start + one] ^= 1;
             session::resum(words);
         }
-        8 => words[first] = words[second],
-        9 => {
-            let extent = words[SLOT.start + other];
-            words[SLOT.start + one] = extent;
-        }
-        10 => words.swap(SUMS.start + SLOTS + one / 2, SUMS.start + SLOTS + other / 2),
-        _ => rename(words, words[first], random.word()),
+        8 => words[FIRSTS.start + first] = words[FIRSTS.start + second],
+        9 => words[SLOT.start + one] = words[SLOT.start + other],
+        10 => words.swap(PARENTS + one / 2, PARENTS + other / 2),
+        _ => rename(words, words[FIRSTS.start + first], random.word()),
     }
 }
 
@@ -127,7 +150,7 @@ fn marked(slots: &[usize], warm: u32, next: u32) -> Vec<u32> {
     for (place, slot) in slots.iter().enumerate() {
         words[SLOT][*slot] = 10 + place as u32;
         words[SUMS][*slot] = 1;
-        if place < 256 {
+        if place < MAX_EXTENTS {
             words[FIRSTS][place] = 10 + place as u32;
         }
     }
@@ -140,16 +163,17 @@ fn marked(slots: &[usize], warm: u32, next: u32) -> Vec<u32> {
 
 /// Four sound sessions, and fourteen that break one clause each.
 pub fn each_clause_broken() -> Vec<Vec<u32>> {
-    let (all, most): (Vec<usize>, u32) = ((0..300).collect(), MAX_READS as u32);
+    let (slots, extents, most) = (SLOTS as u32, MAX_EXTENTS as u32, MAX_READS as u32);
+    let first = |count: usize| (0..count).collect::<Vec<usize>>();
     let mut list = vec![
         marked(&[0, 5, 9], 4, 10),
-        marked(&[0, 511], 4, 512),
-        marked(&all[..256], 0, 256),
+        marked(&[0, SLOTS - 1], 4, slots),
+        marked(&first(MAX_EXTENTS), 0, extents),
         marked(&[0], most - 1, 1),
     ];
-    list.extend([marked(&[0, 5, 9], 4, 9), marked(&[0, 511], 4, 511)]);
-    list.extend([marked(&all[..257], 0, 300), marked(&[0], most, 1)]);
-    list.extend([513, 514, 1024, 1 << 31, u32::MAX].map(|next| marked(&[0, 5], 4, next)));
+    list.extend([marked(&[0, 5, 9], 4, 9), marked(&[0, SLOTS - 1], 4, slots - 1)]);
+    list.extend([marked(&first(MAX_EXTENTS + 1), 0, extents + 44), marked(&[0], most, 1)]);
+    list.extend([slots + 1, slots + 2, 2 * slots, 1 << 31, u32::MAX].map(|next| marked(&[0, 5], 4, next)));
     for (place, word) in [(SLOT.start + 5, 10), (SLOT.start + 6, 12), (FIRSTS.start + 1, 10), (FIRSTS.start + 2, 11)] {
         let mut words = marked(&[0, 5], 4, 9);
         words[place] = word;
@@ -171,13 +195,28 @@ fn add_above(words: &mut [u32], place: usize, number: u32) {
     }
 }
 
-/// The session with each sum changed and all above it too, one at a time.
-pub fn each_sum_changed(random: &mut Random, base: &[u32], mut visit: impl FnMut(&[u32])) {
-    for place in 0..SUMS.len() {
+/// Where the sums of each level stand among the sums, the leaves first, the root last.
+fn levels() -> Vec<Range<usize>> {
+    let starts = (0..=DIGITS).map(|level| 2 * SLOTS - (2 * SLOTS >> level));
+    starts.map(|start| start..start + (SUMS.len() + 1 - start) / 2).collect()
+}
+
+/// The session with one sum in so many changed and all above it too, one at a time: the sums of this turn, and the first
+/// two and the last two of each level; how many sessions these are.
+pub fn sums_changed(
+    random: &mut Random,
+    base: &[u32],
+    among: usize,
+    turn: usize,
+    mut visit: impl FnMut(&[u32]),
+) -> u32 {
+    let places = spread::places(&levels(), among, turn);
+    for place in &places {
         let mut words = base.to_vec();
-        add_above(&mut words, place, random.of(&[1, 2, u32::MAX, 1 << 31]));
+        add_above(&mut words, *place, random.of(&[1, 2, u32::MAX, 1 << 31]));
         visit(&words);
     }
+    places.len() as u32
 }
 
 /// Two sound sessions, and seven whose sums or counts agree only modulo 2^32 or not at all.
@@ -192,7 +231,7 @@ pub fn sums_modulo() -> Vec<Vec<u32>> {
         (COUNTS.start, 3, 1),
         (COUNTS.start, u32::MAX, 5),
         (COUNTS.start, 1 << 31, (1 << 31) + 4),
-        (SUMS.start + 512, u32::MAX, 3),
+        (PARENTS, u32::MAX, 3),
     ] {
         let mut words = sound.clone();
         (words[places], words[places + 1]) = (one, other);

@@ -12,6 +12,7 @@ pub mod random;
 pub mod refusal;
 pub mod room;
 pub mod runs;
+pub mod spread;
 pub mod tally;
 
 /// What a call answers, or the number of its refusal.

@@ -52,6 +52,12 @@ pub fn extents(random: &mut Random, count: usize) -> Vec<u32> {
     random.shuffled(&list)
 }
 
+/// So many different extents that fall to one place of a table by the leading digits of their products with 2,654,435,761
+/// modulo 2^32, which are 0, 1, 2 and so on.
+pub fn together(count: usize) -> Vec<u32> {
+    (0..count as u32).map(|product| product.wrapping_mul(244_002_641)).collect()
+}
+
 /// A number below `bound`, the small ones more often.
 pub fn skewed(random: &mut Random, bound: usize) -> usize {
     let bound = 1 + random.below(bound);

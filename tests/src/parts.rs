@@ -1,6 +1,7 @@
 //! Parts of a trace, their summaries joined in any grouping, and the distances of each part after its prefix.
 
-use crate::plain::{session, summary, trace};
+use crate::plain::summary::{self, MOST_WORDS};
+use crate::plain::{session, trace};
 use crate::random::Random;
 use crate::tally::Tally;
 use crate::{calls, refusal};
@@ -24,7 +25,7 @@ pub fn read_calls(list: &[u32]) -> (Part, Vec<u32>) {
             Err(number) => assert_eq!(number, refusal::EXTENTS, "a read within the limit of reads"),
         }
     }
-    let words = calls::session_summary(&words, 770).expect("a session that nobody else wrote to");
+    let words = calls::session_summary(&words, MOST_WORDS).expect("a session that nobody else wrote to");
     (Part { reads, words }, answers)
 }
 
@@ -35,7 +36,7 @@ pub fn grouped(random: &mut Random, parts: &[Part]) -> Vec<u32> {
     }
     let (first, rest) = parts.split_at(1 + random.below(parts.len() - 1));
     let (a, b) = (grouped(random, first), grouped(random, rest));
-    calls::join(&a, &b, 770).expect("a join within the limits")
+    calls::join(&a, &b, MOST_WORDS).expect("a join within the limits")
 }
 
 /// The words of each part's reads after a grouping of all parts before it, end to end.

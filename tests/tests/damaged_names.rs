@@ -2,7 +2,7 @@
 
 use jemqolu_tests::damage::{self, Seen};
 use jemqolu_tests::plain::names::{self, MAX_NAMES, NAME_WORDS};
-use jemqolu_tests::plain::session::{self, NEXT, SUMS};
+use jemqolu_tests::plain::session::{self, NEXT, SLOTS, SUMS, WORDS};
 use jemqolu_tests::random::Random;
 use jemqolu_tests::tally::Tally;
 use jemqolu_tests::{calls, made, refusal, Answer};
@@ -39,20 +39,19 @@ fn random_words(random: &mut Random, count: usize) -> Vec<u32> {
 
 /// Names up to this one, with random words at the other places and a few past it, and these words under it.
 fn names_with(random: &mut Random, name: u32, set: u32, session: &[u32]) -> Vec<u32> {
-    let past = random.below(4);
-    let mut words = random_words(random, names::place(name).end + past);
-    words[names::place(name)].copy_from_slice(&[&[set], session].concat());
-    words
+    let (before, past) = (names::place(name).start, random.below(4));
+    [&random_words(random, before)[..], &[set], session, &random_words(random, past)].concat()
 }
 
-/// Present sessions for a return, in turn, none of them sound: all 1, and a new and another one with the next slot too large.
+/// Present sessions for a return, in turn, none of them sound: all 1, and a new and another one with the next slot too
+/// large.
 fn present(turn: u32) -> Vec<u32> {
     let mut words = match turn % 3 {
-        0 => return vec![1; session::WORDS],
+        0 => return vec![1; WORDS],
         1 => session::new(),
         _ => session::of(&[4, 4, 9]),
     };
-    words[NEXT] += 1 << 10;
+    words[NEXT] += 2 * SLOTS as u32;
     words
 }
 
@@ -72,7 +71,9 @@ fn compare(tally: &mut Tally, random: &mut Random, seen: &mut Seen, words: &[u32
 #[test]
 fn new_names() {
     let mut tally = Tally::new("new names");
-    for room in [0, 1, 2049, 2050, 2051, 8200, 14_350, 16_398, 16_399, 16_400, 16_401, 16_402, 18_450, 20_000] {
+    let short = [0, 1, NAME_WORDS - 1, NAME_WORDS, NAME_WORDS + 1, 4 * NAME_WORDS, 7 * NAME_WORDS];
+    let about = [-2, -1, 0, 1, 2, NAME_WORDS as isize, 2 * NAME_WORDS as isize];
+    for room in short.into_iter().chain(about.map(|more| names::WORDS.wrapping_add_signed(more))) {
         let wanted = if room < names::WORDS { Err(refusal::ROOM) } else { Ok(names::new()) };
         tally.same(calls::names_new(room), wanted, &room);
     }
@@ -81,9 +82,10 @@ fn new_names() {
 
 /// All names and numbers that are none, each with several lengths of names.
 fn given() -> Vec<(u32, usize)> {
-    let lengths = [0, 1, 2049, 2050, 2051, 4100, 14_350, 16_399, 16_400, 18_450];
+    let short = [0, 1, NAME_WORDS - 1, NAME_WORDS, NAME_WORDS + 1];
+    let long = [2 * NAME_WORDS, 7 * NAME_WORDS, names::WORDS - 1, names::WORDS, names::WORDS + NAME_WORDS];
     let numbers = (1..=MAX_NAMES).chain(NO_NAMES);
-    numbers.flat_map(|number| lengths.map(|len| (number, len))).collect()
+    numbers.flat_map(|number| short.into_iter().chain(long).map(move |len| (number, len))).collect()
 }
 
 /// The first of these refusals that applies.
@@ -100,7 +102,7 @@ fn refusals_of_a_naming_in_order() {
     unsound[SUMS.end - 1] ^= 1;
     // a ninth place, so that only its number tells that 9 is no name
     let names = random_words(&mut random, 9 * NAME_WORDS);
-    for session in [&sound, &unsound, &sound[..2048], &unsound[..2048], &[][..]] {
+    for session in [&sound, &unsound, &sound[..WORDS - 1], &unsound[..WORDS - 1], &[][..]] {
         for (name, len) in given() {
             let outside = name as usize * NAME_WORDS > len;
             let (no_name, not_sound) = (NO_NAMES.contains(&name), session != sound);
@@ -120,7 +122,7 @@ fn refusals_of_a_return_in_order() {
         let mut under = made::session(&mut random);
         under[SUMS.end - 1] ^= u32::from(!sound);
         let names = [&[set], &under[..]].concat().repeat(9);
-        for room in [0, 1, 2047, 2048, 2049, 2050, 4100] {
+        for room in [0, 1, WORDS - 2, WORDS - 1, WORDS, WORDS + 1, 2 * NAME_WORDS] {
             let session = random_words(&mut random, room);
             for (name, len) in given() {
                 let not_set = set == 0 || name as usize * NAME_WORDS > len;
@@ -128,7 +130,7 @@ fn refusals_of_a_return_in_order() {
                     (NO_NAMES.contains(&name), refusal::NUMBER),
                     (not_set, refusal::NAME),
                     (!sound, refusal::STATE),
-                    (room < session::WORDS, refusal::ROOM),
+                    (room < WORDS, refusal::ROOM),
                 ]);
                 let got = compare_return(&mut tally, &session, &names[..len], name);
                 tally.same(got, wanted, &(name, set, sound, room, len));
@@ -144,7 +146,8 @@ fn every_length_about_the_places() {
     let mut random = Random::new(183);
     let (session, under) = (made::session(&mut random), made::session(&mut random));
     let names = [&[1], &under[..]].concat().repeat(10);
-    let ends = (0..=9).flat_map(|place| [-2, -1, 0, 1, 2, 1025].map(|past| place * NAME_WORDS as i64 + past));
+    let whole = NAME_WORDS as i64;
+    let ends = (0..=9).flat_map(|place| [-2, -1, 0, 1, 2, whole / 2].map(|past| place * whole + past));
     let (mut done, mut refused) = (0, 0);
     for len in ends.filter(|len| *len >= 0).map(|len| len as usize) {
         for name in 0..=10 {
@@ -184,15 +187,15 @@ fn any_present_session_at_a_return() {
     for base in damage::bases() {
         let name = 1 + random.below(8) as u32;
         let names = names_with(&mut random, name, 1, &base);
-        let any = random_words(&mut random, 2149);
+        let any = random_words(&mut random, WORDS + 100);
         let mut unsound = damage::each_clause_broken();
         unsound.extend((0..3).map(present));
-        unsound.extend([any[..2049].to_vec(), any.clone(), [&base, &any[..51]].concat()]);
+        unsound.extend([any[..WORDS].to_vec(), any.clone(), [&base, &any[..51]].concat()]);
         for session in &unsound {
             let got = compare_return(&mut tally, session, &names, name);
             tally.same(got, Ok(0), &(name, session.len()));
         }
-        for len in [0, 1, 2047, 2048] {
+        for len in [0, 1, WORDS - 2, WORDS - 1] {
             let got = compare_return(&mut tally, &any[..len], &names, name);
             tally.same(got, Err(refusal::ROOM), &(name, len));
         }
@@ -217,15 +220,19 @@ fn sessions_of_other_lengths() {
 }
 
 #[test]
-fn each_word_changed() {
+fn every_word_changed() {
     let (mut tally, mut seen) = (Tally::new("named sessions with one word changed"), Seen::default());
     let (mut random, mut changes) = (Random::new(187), Random::new(188));
-    for base in damage::bases().iter().skip(1).step_by(2) {
+    // each word is changed in one of the bases, the first two and the last two of each field in all
+    let bases = damage::bases();
+    for (turn, base) in bases.iter().enumerate() {
         compare(&mut tally, &mut random, &mut seen, base, 8);
-        damage::each_word_changed(&mut changes, base, |words| compare(&mut tally, &mut random, &mut seen, words, 1));
+        damage::words_changed(&mut changes, base, bases.len(), turn, |words| {
+            compare(&mut tally, &mut random, &mut seen, words, 1);
+        });
     }
-    assert!(seen.sound >= 50 && seen.refused >= 20_000, "{} sound, {} refused", seen.sound, seen.refused);
-    tally.at_least(100_000);
+    assert!(seen.sound >= 50 && seen.refused as usize >= WORDS, "{} sound, {} refused", seen.sound, seen.refused);
+    tally.at_least(2 * 5 * WORDS as u64);
 }
 
 #[test]
@@ -254,14 +261,18 @@ fn each_clause_broken_alone() {
 }
 
 #[test]
-fn each_sum_changed_with_all_above_it() {
+fn every_sum_changed_with_all_above_it() {
     let (mut tally, mut seen) = (Tally::new("named sessions with a sum wrong and all above it right"), Seen::default());
     let (mut random, mut changes) = (Random::new(191), Random::new(192));
-    for base in damage::bases().iter().take(3) {
-        damage::each_sum_changed(&mut changes, base, |words| compare(&mut tally, &mut random, &mut seen, words, 1));
+    // each sum is changed in one of the bases, the first two and the last two of each level in all
+    let mut damaged = 0;
+    for (turn, base) in damage::bases().iter().take(3).enumerate() {
+        damaged += damage::sums_changed(&mut changes, base, 3, turn, |words| {
+            compare(&mut tally, &mut random, &mut seen, words, 1);
+        });
     }
-    assert_eq!((seen.sound, seen.refused), (0, 3 * 1023));
-    tally.at_least(15_000);
+    assert_eq!((seen.sound, seen.refused), (0, damaged));
+    tally.at_least(5 * SUMS.len() as u64);
 }
 
 #[test]
@@ -270,7 +281,7 @@ fn random_words_as_names() {
     let mut random = Random::new(193);
     let mut seen = [0; 12];
     for _ in 0..400 {
-        let len = random.below(18_000);
+        let len = random.below(names::WORDS + NAME_WORDS);
         let mut names = random_words(&mut random, len);
         if random.one_in(2) {
             names.iter_mut().for_each(|word| *word &= 1);

@@ -3,17 +3,18 @@
 use jemqolu_tests::plain::plans::{self, Plan, LEVEL_WORDS, MAX_BYTES, MAX_DEPTH, MAX_PARTS};
 use jemqolu_tests::random::Random;
 use jemqolu_tests::tally::Tally;
-use jemqolu_tests::{calls, made, Answer};
+use jemqolu_tests::{calls, made, spread, Answer};
 
 /// How often each refusal was wanted, by its number; at 0 how often none was.
 type Seen = [u32; 10];
 
-/// Compares a text on a log, with room for every answer.
+/// Compares a text on a log, with room for the answer, or for one level of joins where it is refused.
 fn compare(tally: &mut Tally, seen: &mut Seen, text: &[u8], log: &[u32]) {
     let wanted = plans::carry_out(text, log);
     note(seen, &wanted);
-    let got = calls::plan(text, log, LEVEL_WORDS * MAX_DEPTH + 2, 40);
-    tally.same(got, plans::within(&wanted, LEVEL_WORDS * MAX_DEPTH + 2, 40), &(String::from_utf8_lossy(text), log));
+    let work = 2 + wanted.as_ref().map_or(LEVEL_WORDS, |carried| carried.cleared);
+    let got = calls::plan(text, log, work, 40);
+    tally.same(got, plans::within(&wanted, work, 40), &(String::from_utf8_lossy(text), log));
 }
 
 /// Counts the refusal of an answer.
@@ -99,14 +100,15 @@ fn each_line_removed_and_doubled() {
     for round in 0..90 {
         let text = made::plan(&mut random, round % (MAX_DEPTH + 1)).text();
         let lines: Vec<&[u8]> = text.split_inclusive(|byte| *byte == b'\n').collect();
-        for place in 0..lines.len() {
+        // every line of short plans; of long ones the first two, the last two and a spread of 80
+        for place in spread::places(&[0..lines.len()], lines.len().div_ceil(80), round) {
             let (front, back) = lines.split_at(place);
             compare_alone(&mut tally, &mut seen, &[front, &back[1..]].concat().concat());
             compare_alone(&mut tally, &mut seen, &[front, &back[..1], back].concat().concat());
         }
     }
-    assert!(seen[0] >= 5000 && seen[1] >= 5000 && seen[4] >= 2000, "{seen:?}");
-    tally.at_least(25_000);
+    assert!(seen[0] >= 2500 && seen[1] >= 2500 && seen[4] >= 800, "{seen:?}");
+    tally.at_least(12_000);
 }
 
 /// A join of so many parts under so many joins, each of which has a seg before it or after it. Its last part is a join
@@ -148,13 +150,14 @@ fn damaged_at_the_limit_of_bytes() {
     let mut random = Random::new(128);
     for bytes in MAX_BYTES - 2..=MAX_BYTES + 2 {
         let text = made::plan_of_length(bytes).text();
-        for _ in 0..20 {
+        for _ in 0..10 {
             let place = random.below(bytes + 1);
             damage_at(&mut tally, &mut seen, &text, place, BYTES);
         }
     }
-    assert!(seen[0] >= 50 && seen[1] >= 1000 && seen[4] >= 1000, "{seen:?}");
-    tally.at_least(4000);
+    // of 21 texts for each place those too long: the 10 with a byte more at the limit, all but one past it
+    assert!(seen[0] >= 25 && seen[1] >= 400 && seen[4] >= 10 * (10 + 20 + 20), "{seen:?}");
+    tally.at_least(5 * 10 * 21 * 2);
 }
 
 #[test]

@@ -2,7 +2,8 @@
 
 use jemqolu_tests::calls;
 use jemqolu_tests::damage::{self, Seen};
-use jemqolu_tests::plain::session::{self, FIRSTS, SUMS};
+use jemqolu_tests::plain::session::{self, FIRSTS, SUMS, WORDS};
+use jemqolu_tests::plain::summary::MOST_WORDS;
 use jemqolu_tests::random::Random;
 use jemqolu_tests::tally::Tally;
 
@@ -26,7 +27,7 @@ fn compare(tally: &mut Tally, seen: &mut Seen, words: &[u32], extent: u32) {
     tally.same(got == wanted, true, &context);
     let summary = session::summary(words);
     seen.count(summary.is_ok());
-    tally.same(calls::session_summary(words, 770), summary, &context);
+    tally.same(calls::session_summary(words, MOST_WORDS), summary, &context);
     let size = size(words, seen.sound + seen.refused);
     tally.same(calls::session_misses(words, size), session::misses(words, size), &(size, &context));
     let bits = |share: Option<f64>| share.map(f64::to_bits);
@@ -35,16 +36,20 @@ fn compare(tally: &mut Tally, seen: &mut Seen, words: &[u32], extent: u32) {
 }
 
 #[test]
-fn each_word_changed() {
+fn every_word_changed() {
     let (mut tally, mut seen) = (Tally::new("sessions with one word changed"), Seen::default());
     let mut random = Random::new(92);
-    for base in damage::bases() {
+    // each word is changed in one of the bases, the first two and the last two of each field in all
+    let bases = damage::bases();
+    for (turn, base) in bases.iter().enumerate() {
         let extent = random.of(&base[FIRSTS]);
-        compare(&mut tally, &mut seen, &base, extent);
-        damage::each_word_changed(&mut random, &base, |words| compare(&mut tally, &mut seen, words, extent));
+        compare(&mut tally, &mut seen, base, extent);
+        damage::words_changed(&mut random, base, bases.len(), turn, |words| {
+            compare(&mut tally, &mut seen, words, extent);
+        });
     }
-    assert!(seen.sound >= 100 && seen.refused >= 20_000, "{} sound, {} refused", seen.sound, seen.refused);
-    tally.at_least(200_000);
+    assert!(seen.sound >= 100 && seen.refused as usize >= WORDS, "{} sound, {} refused", seen.sound, seen.refused);
+    tally.at_least(2 * 5 * WORDS as u64);
 }
 
 #[test]
@@ -61,14 +66,14 @@ fn lengths_around_a_session() {
 fn several_words_changed() {
     let (mut tally, mut seen) = (Tally::new("sessions with several words changed"), Seen::default());
     let mut random = Random::new(93);
-    for _ in 0..8000 {
+    for _ in 0..4000 {
         let words = damage::several_words_changed(&mut random);
         let (known, new) = (random.of(&words[FIRSTS]), random.word());
         let extent = random.of(&[known, known, new]);
         compare(&mut tally, &mut seen, &words, extent);
     }
-    assert!(seen.sound >= 1500 && seen.refused >= 2500, "{} sound, {} refused", seen.sound, seen.refused);
-    tally.at_least(40_000);
+    assert!(seen.sound >= 750 && seen.refused >= 1250, "{} sound, {} refused", seen.sound, seen.refused);
+    tally.at_least(4000 * 5);
 }
 
 #[test]
@@ -83,15 +88,19 @@ fn each_clause_broken_alone() {
 }
 
 #[test]
-fn each_sum_changed_with_all_above_it() {
+fn every_sum_changed_with_all_above_it() {
     let (mut tally, mut seen) = (Tally::new("sessions with one sum wrong and all above it right"), Seen::default());
     let mut random = Random::new(94);
-    for base in damage::bases().iter().take(6) {
+    // each sum is changed in one of the bases, the first two and the last two of each level in all
+    let mut damaged = 0;
+    for (turn, base) in damage::bases().iter().take(6).enumerate() {
         let extent = base[FIRSTS.start];
-        damage::each_sum_changed(&mut random, base, |words| compare(&mut tally, &mut seen, words, extent));
+        damaged += damage::sums_changed(&mut random, base, 6, turn, |words| {
+            compare(&mut tally, &mut seen, words, extent);
+        });
     }
-    assert!(seen.sound == 0 && seen.refused == 6 * 1023, "{} sound, {} refused", seen.sound, seen.refused);
-    tally.at_least(30_000);
+    assert_eq!((seen.sound, seen.refused), (0, damaged));
+    tally.at_least(5 * SUMS.len() as u64);
 }
 
 #[test]

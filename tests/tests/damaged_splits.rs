@@ -3,7 +3,8 @@
 use jemqolu_tests::plain::{splits, summary, MAX_EXTENTS, MAX_READS};
 use jemqolu_tests::random::Random;
 use jemqolu_tests::tally::Tally;
-use jemqolu_tests::{calls, made, refusal};
+use jemqolu_tests::{calls, made, refusal, spread};
+use std::ops::Range;
 
 /// How many runs of words were summaries end to end, and how many were not.
 #[derive(Default)]
@@ -24,7 +25,8 @@ fn compare(tally: &mut Tally, seen: &mut Seen, customers: usize, words: &[u32]) 
     tally.same(calls::split(4, leasts, words, customers + 1), wanted, &(customers, words));
 }
 
-/// Summaries of some customers: of logs, and that no log has; without extents, with few, and with 256.
+/// Summaries of some customers: of logs, and that no log has; without extents, with few, and with all that
+/// a log may have.
 fn bases() -> Vec<Vec<Vec<u32>>> {
     let mut random = Random::new(191);
     let few = [summary::of(&[4, 4]), summary::of(&[7, 3, 7, 9, 3, 3, 9]), summary::of(&[0, 1, 0, 2, 2])];
@@ -51,7 +53,11 @@ fn each_word_changed() {
     for base in bases() {
         let whole = base.concat();
         compare(&mut tally, &mut seen, base.len(), &whole);
-        for place in 0..whole.len() {
+        // every word of few extents; of many the first two and the last two of each list, and a spread of 300 words
+        let starts = (0..base.len()).map(|place| base[..place].concat().len());
+        let lists: Vec<Range<usize>> =
+            starts.zip(&base).flat_map(|(start, words)| spread::lists(start, words[1] as usize)).collect();
+        for place in spread::places(&lists, whole.len().div_ceil(300), 0) {
             for change in changes(&mut random, &whole, place) {
                 let mut words = whole.clone();
                 words[place] = change;
@@ -60,7 +66,7 @@ fn each_word_changed() {
         }
     }
     assert!(seen.formed >= 100 && seen.refused >= 5000, "{} formed, {} refused", seen.formed, seen.refused);
-    tally.at_least(10_000);
+    tally.at_least(6_000);
 }
 
 #[test]
@@ -152,8 +158,9 @@ fn numbers_of_extents_that_reach_past_the_end() {
             let left = whole.len() - start;
             let reach = (left as u32 - 2) / 3;
             let wrapped = (0..12).map(|len| third.wrapping_mul(len));
-            let large = [255, 256, 257, 258, 1000, 65_535, 65_536, 1 << 30, 1 << 31, u32::MAX - 1, u32::MAX];
-            for extents in (0..reach + 3).chain(large).chain(wrapped) {
+            let large = [65_535, 65_536, 1 << 30, 1 << 31, u32::MAX - 1, u32::MAX];
+            let about = [-1, 0, 1, 2, 744].map(|more| (MAX_EXTENTS as u32).wrapping_add_signed(more));
+            for extents in (0..reach + 3).chain(about).chain(large).chain(wrapped) {
                 let mut words = whole.clone();
                 words[start + 1] = extents;
                 compare(&mut tally, &mut seen, base.len(), &words);
@@ -169,9 +176,11 @@ fn too_many_extents_or_reads() {
     let (mut tally, mut seen) = (Tally::new("splits of summaries past the limits"), Seen::default());
     let mut random = Random::new(195);
     let good = [summary::of(&[7, 3, 7]), vec![0, 0], summary::of(&[1, 2, 3, 1, 2, 3])];
-    for (count, reads) in [(255, 300), (256, 300), (257, 300), (300, 300), (1000, 1000), (1, MAX_READS as usize)]
-        .into_iter()
-        .chain([(1, 1 + MAX_READS as usize), (256, MAX_READS as usize), (256, 1 + MAX_READS as usize), (3, 1 << 31)])
+    let (all, most) = (MAX_EXTENTS, MAX_READS as usize);
+    for (count, reads) in
+        [(all - 1, all), (all, all + 44), (all + 1, all + 44), (all + 44, all + 44), (4 * all, 4 * all)]
+            .into_iter()
+            .chain([(1, most), (1, 1 + most), (all, most), (all, 1 + most), (3, 1 << 31)])
     {
         let extents = made::extents(&mut random, count);
         let words = made::summary_over(&mut random, &extents, reads - count);

@@ -2,7 +2,7 @@
 
 use jemqolu_tests::plain::moments::Moments;
 use jemqolu_tests::plain::names::{self, MAX_NAMES};
-use jemqolu_tests::plain::session::Reading;
+use jemqolu_tests::plain::session::{Reading, SLOTS};
 use jemqolu_tests::plain::splits::{self, Customer};
 use jemqolu_tests::plain::trace::{self, Stack};
 use jemqolu_tests::plain::{cache, last_slots, logs, plans, session, split_tables, summary, MAX_EXTENTS};
@@ -23,10 +23,15 @@ fn traces() -> Vec<Vec<u32>> {
 #[test]
 fn a_counted_word_is_the_place_in_the_stack_or_its_height() {
     let mut tally = Tally::new("distances and numbers by counting and by the LRU stack");
-    for trace in traces() {
-        tally.same(Stack(Vec::new()).distances(&trace), trace::distances(&trace), &trace);
+    let mut random = Random::new(20);
+    let many = made::extents(&mut random, MAX_EXTENTS);
+    let long = (0..5).map(|_| [random.shuffled(&many), made::trace_over(&mut random, &many, 2 * MAX_EXTENTS)].concat());
+    for trace in traces().into_iter().chain(long.collect::<Vec<Vec<u32>>>()) {
+        let counted = trace::distances(&trace);
+        tally.same(Stack(Vec::new()).distances(&trace), counted.clone(), &trace);
+        tally.same(summary::of(&trace), summary::with_distances(&trace, &counted), &trace);
     }
-    tally.at_least(1200);
+    tally.at_least(2400);
 }
 
 #[test]
@@ -72,6 +77,30 @@ fn the_reads_that_some_size_serves_are_those_that_are_not_cold() {
 }
 
 #[test]
+fn a_distance_across_is_counted_on_both_sides() {
+    let mut tally = Tally::new("distances across two parts by places and by counting");
+    let mut random = Random::new(19);
+    for round in 0..300 {
+        let pool = made::extents(&mut random, [4, 30, 200][round % 3]);
+        let mut part = || {
+            let count = random.below(pool.len() + 1);
+            let extents = random.shuffled(&pool)[..count].to_vec();
+            made::summary_over(&mut random, &extents, 9)
+        };
+        let (a, b) = (part(), part());
+        let [one, other] = [&a, &b].map(|words| summary::well_formed(words).expect("a well-formed summary"));
+        let before =
+            |list: &[u32], extent: u32| list.iter().copied().take_while(|other| *other != extent).collect::<Vec<u32>>();
+        let across =
+            |extent: u32| 1 + trace::different(&[before(one.recents, extent), before(other.firsts, extent)].concat());
+        let shared = other.firsts.iter().filter(|extent| one.firsts.contains(extent));
+        let counted: Vec<usize> = shared.map(|extent| across(*extent)).collect();
+        tally.same(summary::distances_across(&one, &other), counted, &(&a, &b));
+    }
+    tally.at_least(300);
+}
+
+#[test]
 fn the_join_of_two_parts_is_the_summary_of_the_whole() {
     let mut tally = Tally::new("joins by counting and summaries of the whole");
     for trace in traces() {
@@ -95,8 +124,7 @@ fn the_sums_on_the_way_up_are_the_marks_above() {
         assert!(session::sound(&words), "a made session is sound");
         let marks = session::marks(&words);
         for (place, slot) in marks.iter().enumerate() {
-            let zeros = (0..9).filter(|digit| slot >> digit & 1 == 0).count() as u32;
-            let wanted = (marks.len() - place, zeros);
+            let wanted = (marks.len() - place, last_slots::zeros(*slot));
             tally.same(session::way_up(&words[session::SUMS], *slot), wanted, &(&marks, slot));
         }
     }
@@ -127,7 +155,7 @@ fn a_session_answers_as_the_stack_does() {
     let mut tally = Tally::new("sessions and the LRU stack");
     let mut random = Random::new(13);
     for _ in 0..40 {
-        let trace = made::trace(&mut random, 900, 100);
+        let trace = made::trace(&mut random, 2 * SLOTS, 100);
         let mut words = session::new();
         let answers: Vec<u32> = trace.iter().map(|extent| session::accept(&mut words, *extent).word as u32).collect();
         tally.same(answers, trace::distances(&trace), &trace);
@@ -142,7 +170,7 @@ fn a_session_answers_as_the_last_slots_do() {
     let mut random = Random::new(17);
     for round in 0..40 {
         let most = [4, 40, MAX_EXTENTS][round % 3];
-        let trace = made::trace(&mut random, 3000, most);
+        let trace = made::trace(&mut random, 6 * SLOTS, most);
         let mut words = session::new();
         let answers: Vec<Reading> = trace.iter().map(|extent| session::accept(&mut words, *extent)).collect();
         tally.same(last_slots::readings(&trace), answers, &trace);
@@ -155,7 +183,7 @@ fn named_moments_by_logs_are_those_by_words() {
     let mut tally = Tally::new("named moments by logs and by words");
     let mut random = Random::new(18);
     for round in 0..32 {
-        let extents = made::extents(&mut random, [3, 40, 300][round % 3]);
+        let extents = made::extents(&mut random, [3, 40, MAX_EXTENTS + 44][round % 3]);
         let room = 1 + round as u32 % MAX_NAMES;
         let (mut words, mut names) = (session::new(), names::new()[..names::place(room).end].to_vec());
         let mut moments = Moments::new(room);

@@ -1,7 +1,9 @@
 //! The distances of a part after a prefix.
 
+use jemqolu_tests::parts::read_calls;
+use jemqolu_tests::plain::summary::{self, MOST_WORDS};
 use jemqolu_tests::plain::trace::{self, Stack};
-use jemqolu_tests::plain::{cache, summary, MAX_EXTENTS, MAX_READS};
+use jemqolu_tests::plain::{cache, COLD_BASE, MAX_EXTENTS, MAX_READS};
 use jemqolu_tests::random::Random;
 use jemqolu_tests::room::{rooms, within};
 use jemqolu_tests::tally::Tally;
@@ -80,31 +82,44 @@ fn a_distance_is_the_smallest_cache_that_hits() {
 }
 
 #[test]
+fn scans_of_all_extents_have_the_largest_distance() {
+    let mut tally = Tally::new("scans of all extents, by one call, after a prefix and by a session");
+    let mut random = Random::new(48);
+    let extents = made::extents(&mut random, MAX_EXTENTS);
+    let cold: Vec<u32> = (1..=MAX_EXTENTS as u32).map(|number| COLD_BASE + number).collect();
+    let wanted = [cold, vec![MAX_EXTENTS as u32; 2 * MAX_EXTENTS]].concat();
+    let scans = extents.repeat(3);
+    tally.same(calls::distances(&[0, 0], &scans, scans.len()), Ok(wanted.clone()), &scans);
+    for cut in [1, MAX_EXTENTS - 1, MAX_EXTENTS, MAX_EXTENTS + 1] {
+        let (front, part) = scans.split_at(cut);
+        let prefix = calls::summarize(front, MOST_WORDS).expect("a trace within the limits");
+        tally.same(calls::distances(&prefix, part, part.len()), Ok(wanted[cut..].to_vec()), &cut);
+    }
+    tally.same(read_calls(&scans).1, wanted, &scans);
+    tally.at_least(6);
+}
+
+#[test]
 fn at_the_limit_of_extents() {
-    let mut tally = Tally::new("distances at 256 and 257 extents");
+    let mut tally = Tally::new("distances at the limit of extents and one more");
     let mut random = Random::new(44);
     let mut refused = 0;
-    for (of_prefix, of_part, shared) in
-        [(0, 256, 0), (0, 257, 0), (256, 256, 256), (256, 1, 0), (256, 1, 1), (128, 128, 0)].into_iter().chain([
-            (128, 129, 0),
-            (128, 129, 1),
-            (255, 2, 1),
-            (255, 2, 0),
-            (200, 300, 100),
-        ])
-    {
+    let (all, half) = (MAX_EXTENTS, MAX_EXTENTS / 2);
+    let within = [(0, all, 0), (all, all, all), (all, 1, 1), (half, half, 0), (half, half + 1, 1), (all - 1, 2, 1)];
+    let past = [(0, all + 1, 0), (all, 1, 0), (half, half + 1, 0), (all - 1, 2, 0), (all - 56, all + 44, 100)];
+    for (of_prefix, of_part, shared) in within.into_iter().chain(past) {
         for _ in 0..6 {
             let pool = made::extents(&mut random, of_prefix + of_part - shared);
             let prefix = made::summary_over(&mut random, &pool[..of_prefix], 9);
             let new = &pool[of_prefix - shared..];
             let more = made::trace_over(&mut random, new, 300);
             for part in [[new, &more].concat(), [&more, new].concat()] {
-                refused += u32::from(summary::distances_after(&prefix, &part) == Err(refusal::EXTENTS));
+                refused += usize::from(summary::distances_after(&prefix, &part) == Err(refusal::EXTENTS));
                 compare(&mut tally, &prefix, &part);
             }
         }
     }
-    assert_eq!(refused, 60, "the parts with more than 256 extents");
+    assert_eq!(refused, past.len() * 6 * 2, "the parts with more than {MAX_EXTENTS} extents");
     tally.at_least(800);
 }
 
@@ -113,7 +128,7 @@ fn at_the_limit_of_reads() {
     let mut tally = Tally::new("distances at 1,048,576 reads");
     let mut random = Random::new(45);
     for (left, reads) in [(0, 0), (0, 1), (1, 1), (1, 2), (500, 499), (500, 500), (500, 501), (500, 900)] {
-        for count in [1, 7, 256] {
+        for count in [1, 7, MAX_EXTENTS] {
             let extents = made::extents(&mut random, count);
             let prefix = made::summary_over(&mut random, &extents, MAX_READS as usize - left - count);
             let part = made::trace_over(&mut random, &extents, reads);
@@ -125,15 +140,18 @@ fn at_the_limit_of_reads() {
 
 #[test]
 fn refusals_in_order() {
-    let extents: Vec<u32> = (0..256).collect();
-    let full = made::summary_over(&mut Random::new(46), &extents, MAX_READS as usize - 256);
-    let room_for_one = made::summary_over(&mut Random::new(47), &extents, MAX_READS as usize - 257);
-    assert_eq!(calls::distances(&[1, 0], &[999, 999], 0), Err(refusal::SUMMARY));
-    assert_eq!(calls::distances(&full, &[999], 0), Err(refusal::READS));
-    assert_eq!(calls::distances(&room_for_one, &[999, 999], 0), Err(refusal::READS));
-    assert_eq!(calls::distances(&room_for_one, &[999], 0), Err(refusal::EXTENTS));
+    let another = MAX_EXTENTS as u32;
+    let extents: Vec<u32> = (0..another).collect();
+    let warm = MAX_READS as usize - MAX_EXTENTS;
+    let full = made::summary_over(&mut Random::new(46), &extents, warm);
+    let room_for_one = made::summary_over(&mut Random::new(47), &extents, warm - 1);
+    assert_eq!(calls::distances(&[1, 0], &[another, another], 0), Err(refusal::SUMMARY));
+    assert_eq!(calls::distances(&full, &[another], 0), Err(refusal::READS));
+    assert_eq!(calls::distances(&room_for_one, &[another, another], 0), Err(refusal::READS));
+    assert_eq!(calls::distances(&room_for_one, &[another], 0), Err(refusal::EXTENTS));
     assert_eq!(calls::distances(&room_for_one, &[9], 0), Err(refusal::ROOM));
-    let mut stack = Stack(room_for_one[258..514].to_vec());
+    let recents = summary::well_formed(&room_for_one).expect("a well-formed summary").recents;
+    let mut stack = Stack(recents.to_vec());
     assert_eq!(calls::distances(&room_for_one, &[9], 1), Ok(vec![stack.read(9)]));
     assert_eq!(calls::distances(&full, &[], 0), Ok(vec![]));
 }

@@ -1,5 +1,6 @@
 //! Slices of length 0 whose pointer points at nothing.
 
+use jemqolu_tests::plain::names::NAME_WORDS;
 use jemqolu_tests::plain::session;
 use jemqolu_tests::{ffi, refusal};
 
@@ -36,8 +37,8 @@ fn a_slice_of_no_words_may_have_any_pointer() {
     assert_eq!(ffi::session_name(&session::new(), &mut [], 1), Err(refusal::ROOM));
     assert_eq!(ffi::session_return(&mut [], &[], 0), Err(refusal::NUMBER));
     assert_eq!(ffi::session_return(&mut [], &[], 8), Err(refusal::NAME));
-    assert_eq!(ffi::session_return(&mut [], &[0; 2050], 1), Err(refusal::NAME));
-    assert_eq!(ffi::session_return(&mut [], &[1; 2050], 1), Err(refusal::STATE));
+    assert_eq!(ffi::session_return(&mut [], &[0; NAME_WORDS], 1), Err(refusal::NAME));
+    assert_eq!(ffi::session_return(&mut [], &[1; NAME_WORDS], 1), Err(refusal::STATE));
     assert_eq!(ffi::session_return(&mut [], &[&[1][..], &session::new()].concat(), 1), Err(refusal::ROOM));
     assert_eq!(ffi::watch_new(1, &mut []), Err(refusal::ROOM));
     assert_eq!(ffi::watch_read(&mut [], 1), Err(refusal::STATE));

@@ -2,7 +2,8 @@
 
 use jemqolu_tests::plain::plans::{self, Plan, LEVEL_WORDS};
 use jemqolu_tests::plain::session::{self, WORDS};
-use jemqolu_tests::plain::{logs, splits, summary, trace, watch, COLD_BASE};
+use jemqolu_tests::plain::summary::{self, MOST_WORDS};
+use jemqolu_tests::plain::{logs, splits, trace, watch, COLD_BASE};
 use jemqolu_tests::random::Random;
 use jemqolu_tests::tally::Tally;
 use jemqolu_tests::{ffi, made, Answer};
@@ -84,7 +85,7 @@ fn sessions_and_watches() {
     for _ in 0..12 {
         let whole = made::session(&mut random);
         for len in (0..WORDS).step_by(31).chain([WORDS - 2, WORDS - 1]) {
-            let (mut words, mut sums_read, mut slots_looked, mut out) = (whole.clone(), 5, 6, [3; 770]);
+            let (mut words, mut sums_read, mut slots_looked, mut out) = (whole.clone(), 5, 6, [3; MOST_WORDS]);
             let answer = ffi::session_read(&mut words[..len], whole[1], &mut sums_read, &mut slots_looked).map(|_| ());
             tally.same(answer, session::read(&mut whole[..len].to_vec(), whole[1]).map(|_| ()), &len);
             tally.same((words == whole, sums_read, slots_looked), (true, 5, 6), &len);

@@ -1,8 +1,17 @@
 //! The header: its calls are those declared in `ffi`, and its limits and refusals those of the definitions.
 
 use jemqolu_tests::header::{number, HEADER};
-use jemqolu_tests::plain::{names, plans, session, splits, watch, COLD_BASE, MAX_EXTENTS, MAX_READS};
+use jemqolu_tests::plain::session::{self, COUNTS, FIRSTS, NEXT, READS, SLOT, SLOTS, SUMS};
+use jemqolu_tests::plain::{logs, names, plans, splits, summary, watch, COLD_BASE, MAX_EXTENTS, MAX_READS};
 use jemqolu_tests::refusal;
+
+/// A number below a million as the header's text writes it.
+fn with_comma(number: usize) -> String {
+    match (number / 1000, number % 1000) {
+        (0, ones) => ones.to_string(),
+        (thousands, ones) => format!("{thousands},{ones:03}"),
+    }
+}
 
 /// The declarations as they stand in the header, line ends and indents aside.
 const CALLS: [&str; 20] = [
@@ -53,15 +62,39 @@ fn the_header_has_the_limits_of_the_definitions() {
     assert_eq!(number("MAX_CUSTOMERS"), splits::MAX_CUSTOMERS as u64);
     assert_eq!(number("MAX_NAMES"), u64::from(names::MAX_NAMES));
     assert_eq!(number("COLD_BASE"), u64::from(COLD_BASE));
-    assert_eq!(number("SUMMARY_WORDS"), 2 + 3 * MAX_EXTENTS as u64);
+    assert_eq!(number("SUMMARY_WORDS"), summary::MOST_WORDS as u64);
     assert_eq!(number("LEVEL_WORDS"), plans::LEVEL_WORDS as u64);
     assert_eq!(number("WORK_WORDS"), (plans::LEVEL_WORDS * plans::MAX_DEPTH) as u64);
     assert_eq!(number("SESSION_WORDS"), session::WORDS as u64);
     assert_eq!(number("WATCH_WORDS"), watch::WORDS as u64);
     assert_eq!(number("NAME_WORDS"), names::NAME_WORDS as u64);
     assert_eq!(number("NAMES_WORDS"), names::WORDS as u64);
-    let longest_row = " (at 256 1048576)\n".len() as u64;
-    assert!(number("LISTING_BYTES") >= (MAX_EXTENTS as u64 + 3) * longest_row);
+    let longest_row = format!(" (at {MAX_EXTENTS} {MAX_READS})\n").len();
+    assert!(logs::LISTING_BYTES >= (MAX_EXTENTS + 3) * longest_row);
+    assert_eq!(number("LISTING_BYTES"), logs::LISTING_BYTES as u64);
+}
+
+#[test]
+fn the_header_has_the_words_of_a_session() {
+    let has = |words: &str, what: &str| {
+        let line = HEADER.lines().find_map(|line| line.strip_prefix(&format!(" *   {words} ")));
+        assert!(line.is_some_and(|line| line.trim_start().starts_with(what)), "{words}: {what}");
+    };
+    let [of_firsts, of_counts, of_slots, of_sums] =
+        [FIRSTS, COUNTS, SLOT, SUMS].map(|range| format!("words {}..{}", range.start, range.end - 1));
+    has(&format!("word {READS}"), "L,");
+    has(&of_firsts, "F,");
+    has(&of_counts, &format!("H, word {} + d ", with_comma(COUNTS.start - 1)));
+    has(&of_slots, &format!("{} slots:", with_comma(SLOTS)));
+    let leaves = with_comma(SLOTS);
+    has(
+        &of_sums,
+        &format!(
+            "{} sums: {leaves} leaves, 1 for a marked slot; the parent of p is {leaves} + p / 2;",
+            with_comma(SUMS.len())
+        ),
+    );
+    has(&format!("word {NEXT}"), "the next slot");
 }
 
 #[test]

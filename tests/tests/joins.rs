@@ -1,10 +1,11 @@
 //! Joins of summaries, whether or not a trace has them.
 
-use jemqolu_tests::plain::{summary, MAX_EXTENTS, MAX_READS};
+use jemqolu_tests::plain::summary::{self, MOST_WORDS};
+use jemqolu_tests::plain::{MAX_EXTENTS, MAX_READS};
 use jemqolu_tests::random::Random;
 use jemqolu_tests::room::{rooms, within};
 use jemqolu_tests::tally::Tally;
-use jemqolu_tests::{calls, made, refusal};
+use jemqolu_tests::{calls, made, refusal, spread};
 
 /// Compares a join in buffers of all lengths of interest.
 fn compare(tally: &mut Tally, a: &[u32], b: &[u32]) {
@@ -35,7 +36,7 @@ fn two_parts_of_a_trace() {
         let trace = made::trace(&mut random, 600, most);
         let cut = random.below(trace.len() + 1);
         let (a, b) = (summary::of(&trace[..cut]), summary::of(&trace[cut..]));
-        tally.same(calls::join(&a, &b, 770), Ok(summary::of(&trace)), &(&trace, cut));
+        tally.same(calls::join(&a, &b, MOST_WORDS), Ok(summary::of(&trace)), &(&trace, cut));
         compare(&mut tally, &a, &b);
     }
     tally.at_least(4000);
@@ -94,38 +95,38 @@ fn words_that_no_trace_has() {
 }
 
 #[test]
-fn every_number_of_extents() {
-    let mut tally = Tally::new("joins of every number of extents");
+fn many_numbers_of_extents() {
+    let mut tally = Tally::new("joins of many numbers of extents");
     let mut random = Random::new(37);
-    for count in 0..=MAX_EXTENTS {
+    for count in spread::numbers_of_extents(16) {
         let pool = made::extents(&mut random, MAX_EXTENTS);
         let a = made::summary_over(&mut random, &pool[..count], count);
         let shared = random.below(count + 1);
         let b = made::summary_over(&mut random, &pool[count - shared..], count);
-        tally.same(calls::join(&a, &b, 770), summary::join(&a, &b), &(&a, &b));
-        tally.same(calls::join(&a, &a, 770), summary::join(&a, &a), &a);
+        tally.same(calls::join(&a, &b, MOST_WORDS), summary::join(&a, &b), &(&a, &b));
+        tally.same(calls::join(&a, &a, MOST_WORDS), summary::join(&a, &a), &a);
     }
-    tally.at_least(514);
+    tally.at_least(2 * MAX_EXTENTS as u64 / 16);
 }
 
 #[test]
 fn at_the_limit_of_extents() {
-    let mut tally = Tally::new("joins at 256 and 257 extents");
+    let mut tally = Tally::new("joins at the limit of extents and one more");
     let mut random = Random::new(33);
     let mut refused = 0;
-    for (of_a, of_b, shared) in [(256, 256, 256), (128, 128, 0), (128, 129, 0), (128, 129, 1), (256, 0, 0), (256, 1, 0)]
-        .into_iter()
-        .chain([(256, 1, 1), (200, 200, 144), (200, 200, 143), (1, 256, 0), (0, 256, 0), (256, 256, 0)])
-    {
+    let (all, half, most) = (MAX_EXTENTS, MAX_EXTENTS / 2, MAX_EXTENTS - 56);
+    let within = [(half, half, 0), (half, half + 1, 1), (most, most, all - 112), (all, 1, 1), (all, all, all)];
+    let past = [(half, half + 1, 0), (most, most, all - 113), (all, 1, 0), (1, all, 0), (all, all, 0)];
+    for (of_a, of_b, shared) in within.into_iter().chain([(all, 0, 0), (0, all, 0)]).chain(past) {
         for _ in 0..6 {
             let pool = made::extents(&mut random, of_a + of_b - shared);
             let a = made::summary_over(&mut random, &pool[..of_a], 50);
             let b = made::summary_over(&mut random, &pool[of_a - shared..], 70);
-            refused += u32::from(summary::join(&a, &b) == Err(refusal::EXTENTS));
+            refused += usize::from(summary::join(&a, &b) == Err(refusal::EXTENTS));
             compare(&mut tally, &a, &b);
         }
     }
-    assert_eq!(refused, 30, "the joins of more than 256 extents");
+    assert_eq!(refused, past.len() * 6, "the joins of more than {MAX_EXTENTS} extents");
     tally.at_least(400);
 }
 
@@ -133,11 +134,11 @@ fn at_the_limit_of_extents() {
 fn at_the_limit_of_reads() {
     let mut tally = Tally::new("joins at 1,048,576 reads");
     let mut random = Random::new(34);
-    let most = MAX_READS as usize;
-    for count in [1, 3, 256] {
+    let (most, few) = (MAX_READS as usize, MAX_EXTENTS + 44);
+    for count in [1, 3, MAX_EXTENTS] {
         for (of_a, of_b) in [(most, 0), (0, most), (most / 2, most / 2), (most - count, count), (most, count)]
             .into_iter()
-            .chain([(most, most), (most - 300, 301), (most - 300, 300), (300, most - 299), (most - 1, 1)])
+            .chain([(most, most), (most - few, few + 1), (most - few, few), (few, most - few + 1), (most - 1, 1)])
         {
             let extents = made::extents(&mut random, count);
             let part = |random: &mut Random, reads: usize| {
@@ -153,20 +154,21 @@ fn at_the_limit_of_reads() {
 
 #[test]
 fn refusals_in_order() {
+    let all = MAX_EXTENTS as u32;
     let full = |first: u32| -> Vec<u32> {
-        let extents: Vec<u32> = (first..first + 256).collect();
-        let mut counts = vec![0; 256];
-        counts[0] = MAX_READS as u32 - 256;
-        [&[MAX_READS as u32, 256][..], &extents, &extents, &counts].concat()
+        let extents: Vec<u32> = (first..first + all).collect();
+        let mut counts = vec![0; MAX_EXTENTS];
+        counts[0] = MAX_READS as u32 - all;
+        [&[MAX_READS as u32, all][..], &extents, &extents, &counts].concat()
     };
-    let (a, b, bad) = (full(0), full(256), [0, 1]);
+    let (a, b, bad) = (full(0), full(all), [0, 1]);
     assert_eq!(calls::join(&bad, &bad, 0), Err(refusal::SUMMARY));
     assert_eq!(calls::join(&bad, &b, 0), Err(refusal::SUMMARY));
     assert_eq!(calls::join(&a, &bad, 0), Err(refusal::SUMMARY));
     assert_eq!(calls::join(&a, &b, 0), Err(refusal::READS));
-    let few = made::summary_over(&mut Random::new(35), &(256..512).collect::<Vec<u32>>(), 0);
-    let more = made::summary_over(&mut Random::new(36), &(0..256).collect::<Vec<u32>>(), 0);
+    let few = made::summary_over(&mut Random::new(35), &(all..2 * all).collect::<Vec<u32>>(), 0);
+    let more = made::summary_over(&mut Random::new(36), &(0..all).collect::<Vec<u32>>(), 0);
     assert_eq!(calls::join(&few, &more, 0), Err(refusal::EXTENTS));
-    assert_eq!(calls::join(&few, &few, 769), Err(refusal::ROOM));
-    assert_eq!(calls::join(&few, &few, 770), summary::join(&few, &few));
+    assert_eq!(calls::join(&few, &few, MOST_WORDS - 1), Err(refusal::ROOM));
+    assert_eq!(calls::join(&few, &few, MOST_WORDS), summary::join(&few, &few));
 }

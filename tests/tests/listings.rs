@@ -1,10 +1,11 @@
 //! Listings of log texts, valid and damaged.
 
-use jemqolu_tests::plain::{cache, logs, trace, MAX_EXTENTS};
+use jemqolu_tests::plain::logs::{self, LISTING_BYTES};
+use jemqolu_tests::plain::{cache, trace, MAX_EXTENTS};
 use jemqolu_tests::random::Random;
 use jemqolu_tests::room::{rooms, within};
 use jemqolu_tests::tally::Tally;
-use jemqolu_tests::{calls, made, refusal};
+use jemqolu_tests::{calls, made, refusal, spread};
 
 /// How often each refusal was wanted, by its number; at 0 how often none was.
 type Seen = [u32; 10];
@@ -12,7 +13,7 @@ type Seen = [u32; 10];
 /// Compares the listing of a text in buffers of all lengths of interest.
 fn compare(tally: &mut Tally, text: &[u8]) {
     let wanted = logs::list(text);
-    for room in rooms(&wanted).into_iter().chain([8192]) {
+    for room in rooms(&wanted).into_iter().chain([LISTING_BYTES]) {
         tally.same(calls::list(text, room), within(&wanted, room), &(String::from_utf8_lossy(text), room));
     }
 }
@@ -21,7 +22,7 @@ fn compare(tally: &mut Tally, text: &[u8]) {
 fn compare_once(tally: &mut Tally, seen: &mut Seen, text: &[u8]) {
     let wanted = logs::list(text);
     seen[wanted.as_ref().map_or_else(|number| *number as usize, |_| 0)] += 1;
-    tally.same(calls::list(text, 8192), wanted, &String::from_utf8_lossy(text));
+    tally.same(calls::list(text, LISTING_BYTES), wanted, &String::from_utf8_lossy(text));
 }
 
 #[test]
@@ -51,7 +52,7 @@ fn the_caches_that_read_a_log() {
     let mut random = Random::new(132);
     for _ in 0..120 {
         let log = made::trace(&mut random, 200, 20);
-        let listing = calls::list(&logs::text(&log), 8192).expect("a log within the limits");
+        let listing = calls::list(&logs::text(&log), LISTING_BYTES).expect("a log within the limits");
         let listing = String::from_utf8(listing).expect("a listing in letters");
         for size in 1..=trace::firsts(&log).len() as u32 {
             let row = format!(" (at {size} {})", cache::misses(&log, size));
@@ -184,7 +185,7 @@ fn texts_with_one_fault_or_two() {
     let faulty = FAULTY.iter().map(|text| (text, refusal::LINE));
     for (text, number) in faulty.chain(ABOVE.iter().map(|text| (text, refusal::NUMBER))) {
         tally.same(logs::list(text.as_bytes()), Err(number), text);
-        for room in [0, 8192] {
+        for room in [0, LISTING_BYTES] {
             tally.same(calls::list(text.as_bytes(), room), Err(number), text);
         }
     }
@@ -192,28 +193,28 @@ fn texts_with_one_fault_or_two() {
 }
 
 #[test]
-fn every_length_and_every_number_of_extents() {
+fn every_length_and_many_numbers_of_extents() {
     let mut tally = Tally::new("listings of every length");
     let mut random = Random::new(136);
     let few = made::extents(&mut random, 7);
     let trace = made::trace_over(&mut random, &few, 1030);
     for len in 0..=trace.len() {
         let text = logs::text(&trace[..len]);
-        tally.same(calls::list(&text, 8192), logs::list(&text), &(&trace, len));
+        tally.same(calls::list(&text, LISTING_BYTES), logs::list(&text), &(&trace, len));
     }
-    for count in 0..=MAX_EXTENTS {
+    for count in spread::numbers_of_extents(8) {
         let extents = made::extents(&mut random, count);
         let text = logs::text(&[extents.clone(), random.shuffled(&extents)].concat());
         compare(&mut tally, &text);
     }
-    tally.at_least(3000);
+    tally.at_least(1031 + MAX_EXTENTS as u64);
 }
 
 #[test]
 fn at_the_limit_of_extents() {
-    let (mut tally, mut seen) = (Tally::new("log texts at 256 and 257 extents"), Seen::default());
+    let (mut tally, mut seen) = (Tally::new("log texts at the limit of extents and past it"), Seen::default());
     let mut random = Random::new(134);
-    for count in [255, 256, 257, 300] {
+    for count in [MAX_EXTENTS - 1, MAX_EXTENTS, MAX_EXTENTS + 1, MAX_EXTENTS + 44] {
         for _ in 0..6 {
             let extents = made::extents(&mut random, count);
             let log = [extents.clone(), made::trace_over(&mut random, &extents, 100)].concat();
@@ -223,14 +224,20 @@ fn at_the_limit_of_extents() {
         }
     }
     assert_eq!((seen[0], seen[1], seen[9]), (12, 12, 24));
-    let full: String = (0..256).map(|extent| format!(" (read {extent})\n")).collect();
-    for (line, number) in [("(read 256)\n", 9), ("(read 256))\n", 9), ("(read 256)\n\n", 9), ("(read 256)", 1)]
-        .into_iter()
-        .chain([("(read 4294967296)\n", 2), ("(read 0256)\n", 1), ("(read 256)))\n", 1), ("(read 5000000000))\n", 2)])
-    {
+    let full: String = (0..MAX_EXTENTS).map(|extent| format!(" (read {extent})\n")).collect();
+    for (line, number) in [
+        (format!("(read {MAX_EXTENTS})\n"), 9),
+        (format!("(read {MAX_EXTENTS}))\n"), 9),
+        (format!("(read {MAX_EXTENTS})\n\n"), 9),
+        (format!("(read {MAX_EXTENTS})"), 1),
+        (format!("(read 0{MAX_EXTENTS})\n"), 1),
+        (format!("(read {MAX_EXTENTS})))\n"), 1),
+        ("(read 4294967296)\n".to_string(), 2),
+        ("(read 5000000000))\n".to_string(), 2),
+    ] {
         tally.same(calls::list(format!("(trace\n{full} {line}").as_bytes(), 0), Err(number), &line);
     }
-    let ended = format!("(trace\n{full} (read 255))\n");
+    let ended = format!("(trace\n{full} (read {}))\n", MAX_EXTENTS - 1);
     tally.same(calls::list(ended.as_bytes(), 0), Err(refusal::ROOM), &ended);
     tally.at_least(200);
 }

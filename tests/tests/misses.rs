@@ -1,15 +1,18 @@
 //! Misses and hit shares of summaries.
 
-use jemqolu_tests::plain::{cache, hit_share, summary, MAX_READS};
+use jemqolu_tests::plain::{cache, hit_share, summary, MAX_EXTENTS, MAX_READS};
 use jemqolu_tests::random::Random;
 use jemqolu_tests::tally::Tally;
 use jemqolu_tests::{calls, made, Answer};
 
+/// The largest distance.
+const LAST: u32 = MAX_EXTENTS as u32;
+
 /// Sizes to try for a summary: all that matter, and large ones.
 fn sizes(words: &[u32]) -> Vec<u32> {
-    let v = words.get(1).copied().unwrap_or(0).min(300);
+    let v = words.get(1).copied().unwrap_or(0).min(LAST + 44);
     let near: Vec<u32> = if v <= 40 { (0..=v + 2).collect() } else { vec![0, 1, 2, v / 2, v - 1, v, v + 1] };
-    [near, vec![255, 256, 257, 65_536, 1 << 31, u32::MAX - 1, u32::MAX]].concat()
+    [near, vec![LAST - 1, LAST, LAST + 1, 65_536, 1 << 31, u32::MAX - 1, u32::MAX]].concat()
 }
 
 /// A share as its bits, so that two that compare equal are the same number.
@@ -31,7 +34,7 @@ fn the_caches_that_read_a_trace() {
     let mut random = Random::new(51);
     let mut traces = made::all_traces(6, &[0, 4096, u32::MAX]);
     traces.extend((0..120).map(|_| made::trace(&mut random, 300, 30)));
-    traces.extend((0..120).map(|_| made::trace(&mut random, 1200, 256)));
+    traces.extend((0..120).map(|_| made::trace(&mut random, 1200, MAX_EXTENTS)));
     for trace in traces {
         let words = summary::of(&trace);
         for size in sizes(&words) {
@@ -49,7 +52,7 @@ fn words_that_no_trace_has() {
     let mut tally = Tally::new("misses and shares of words that no trace has");
     let mut random = Random::new(52);
     for round in 0..1500 {
-        let most = if round % 3 == 0 { 256 } else { 12 };
+        let most = if round % 3 == 0 { MAX_EXTENTS } else { 12 };
         let words = made::summary(&mut random, most);
         compare(&mut tally, &words);
     }
@@ -76,7 +79,7 @@ fn shares_are_between_0_and_1_and_reach_1() {
     let mut tally = Tally::new("shares of 1, and below");
     let mut random = Random::new(54);
     for round in 0..2000 {
-        let most = [3, 12, 256][round % 3];
+        let most = [3, 12, MAX_EXTENTS][round % 3];
         let words = made::summary(&mut random, most);
         let (v, counts) = (words[1], &words[2 + 2 * words[1] as usize..]);
         for size in sizes(&words) {
@@ -88,14 +91,15 @@ fn shares_are_between_0_and_1_and_reach_1() {
             tally.same(share == 1.0, all, &(&words, size));
         }
     }
-    tally.at_least(84_000);
+    // twelve sizes or more, and three comparisons where there are reads that are not cold
+    tally.at_least(2000 * 12 * 3);
 }
 
 #[test]
 fn no_reads() {
     let mut tally = Tally::new("misses and shares of no reads, and of cold reads alone");
     let mut random = Random::new(55);
-    for count in [0, 1, 2, 5, 255, 256] {
+    for count in [0, 1, 2, 5, MAX_EXTENTS - 1, MAX_EXTENTS] {
         let words = summary::of(&made::extents(&mut random, count));
         for size in sizes(&words) {
             tally.same(calls::misses(&words, size), Ok(count as u64), &(count, size));

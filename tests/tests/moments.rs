@@ -3,7 +3,9 @@
 use jemqolu_tests::parts::{self, Part};
 use jemqolu_tests::plain::names::Call::{self, Name, Read, Return};
 use jemqolu_tests::plain::names::{self, MAX_NAMES};
-use jemqolu_tests::plain::{cache, hit_share, session, summary, COLD_BASE, MAX_EXTENTS, MAX_READS};
+use jemqolu_tests::plain::session::{self, SLOTS};
+use jemqolu_tests::plain::summary::{self, MOST_WORDS};
+use jemqolu_tests::plain::{cache, hit_share, COLD_BASE, MAX_EXTENTS, MAX_READS};
 use jemqolu_tests::random::Random;
 use jemqolu_tests::runs::{self, Run};
 use jemqolu_tests::tally::Tally;
@@ -42,8 +44,8 @@ fn compare_log(tally: &mut Tally, run: &Run) {
         calls::session_read(&mut alone, *extent).expect("a read within the limits");
     }
     tally.same(&run.session, &alone, log);
-    tally.same(calls::session_summary(&run.session, 770), Ok(summary::of(log)), log);
-    for size in [0, 1, 3, 40, 255, u32::MAX] {
+    tally.same(calls::session_summary(&run.session, MOST_WORDS), Ok(summary::of(log)), log);
+    for size in [0, 1, 3, 40, MAX_EXTENTS as u32 - 1, u32::MAX] {
         let misses = cache::misses(log, size);
         let share = hit_share(log.len() as u64 - misses, cache::servable(log));
         tally.same(calls::session_misses(&run.session, size), Ok(misses), &(size, log));
@@ -137,8 +139,9 @@ fn random_lists_of_calls() {
     let mut tally = Tally::new("random lists of calls");
     let mut random = Random::new(172);
     let mut seen = Vec::new();
-    for round in 0..96 {
-        let (count, among, most) = [(120, 4, 5), (300, 12, 30), (600, 100, 400)][round % 3];
+    let many = (5 * MAX_EXTENTS / 2, 100, 3 * MAX_EXTENTS / 2);
+    for round in 0..72 {
+        let (count, among, most) = if round % 12 == 5 { many } else { [(120, 4, 5), (300, 12, 30)][round % 2] };
         let extents = made::extents(&mut random, most);
         let list = runs::list(&mut random, &extents, count, among);
         let mut run = Run::new(1 + round as u32 % MAX_NAMES);
@@ -149,14 +152,14 @@ fn random_lists_of_calls() {
         let refused = seen.iter().filter(|answer| **answer == Err(number)).count();
         assert!(refused > 100, "{refused} refused with {number}");
     }
-    tally.at_least(60_000);
+    tally.at_least(72 * 120 + 12 * MAX_EXTENTS as u64);
 }
 
 #[test]
 fn at_the_limit_of_extents() {
-    let mut tally = Tally::new("returns from 256 extents to fewer");
+    let mut tally = Tally::new("returns from the limit of extents to fewer");
     let mut random = Random::new(173);
-    for fewer in [1, 2, 100, 253, 254, 255] {
+    for fewer in [1, 2, 100, MAX_EXTENTS - 3, MAX_EXTENTS - 2, MAX_EXTENTS - 1] {
         let extents = made::extents(&mut random, MAX_EXTENTS + 2);
         let (known, others) = extents.split_at(MAX_EXTENTS);
         let (another, more) = (Read(others[0]), Read(others[1]));
@@ -166,8 +169,8 @@ fn at_the_limit_of_extents() {
         carry_out(&mut tally, &mut run, &reads(&known[fewer..]));
         let full = Err(refusal::EXTENTS);
         let list = [Name(2), another, Return(1), another, Name(3), Return(2), another, Read(known[0]), Return(3), more];
-        let (first, last) = (cold(fewer + 1), if fewer == 255 { full } else { cold(fewer + 2) });
-        let wanted = [DONE, full, DONE, first, DONE, DONE, full, Ok(256), DONE, last];
+        let (first, last) = (cold(fewer + 1), if fewer + 1 == MAX_EXTENTS { full } else { cold(fewer + 2) });
+        let wanted = [DONE, full, DONE, first, DONE, DONE, full, Ok(MAX_EXTENTS), DONE, last];
         answered(&mut tally, &mut run, &list, &wanted);
         compare_log(&mut tally, &run);
     }
@@ -194,13 +197,15 @@ fn at_the_limit_of_reads() {
     let mut tally = Tally::new("returns from 1,048,576 reads to fewer");
     let mut random = Random::new(174);
     let (done, full) = (None, Some(refusal::READS));
-    for (count, next) in [(1, 256), (2, 512), (255, 400), (256, 300), (256, 512)] {
+    let full_at = [MAX_EXTENTS + 44, SLOTS].map(|next| (MAX_EXTENTS, next));
+    let fewer = [(1, MAX_EXTENTS), (2, SLOTS), (MAX_EXTENTS - 1, MAX_EXTENTS + 144)];
+    for (count, next) in fewer.into_iter().chain(full_at) {
         let extents = made::extents(&mut random, count + 1);
         let words = made::session_over(&mut random, &extents[1..], MAX_READS as usize - 2 - count, next);
         let (known, another) = (Read(extents[1]), Read(extents[0]));
         let list =
             [Name(1), known, known, known, another, Name(8), Return(1), another, known, Return(8), known, another];
-        let newcomer = (count == 256).then_some(refusal::EXTENTS);
+        let newcomer = (count == MAX_EXTENTS).then_some(refusal::EXTENTS);
         let wanted = [done, done, done, full, full, done, done, newcomer, done, done, full, full];
         let got = compare_words(&mut tally, &words, &names::new(), &list);
         tally.same(&got[..], &wanted, &count);
@@ -235,7 +240,8 @@ fn where_the_marks_move() {
         let extents = made::extents(&mut random, most);
         let mut run = Run::new(MAX_NAMES);
         let mut read = 0;
-        for (name, end) in [(1, 490), (2, 511), (3, 512), (4, 513), (5, 700), (6, 1030)] {
+        let ends = [SLOTS - 22, SLOTS - 1, SLOTS, SLOTS + 1, SLOTS + 188, 2 * SLOTS + 6];
+        for (name, end) in (1..).zip(ends) {
             carry_out(&mut tally, &mut run, &reads(&made::trace_over(&mut random, &extents, end - read)));
             answered(&mut tally, &mut run, &[Name(name)], &[DONE]);
             read = end;
@@ -274,7 +280,7 @@ fn part(tally: &mut Tally, random: &mut Random, extents: &[u32]) -> Part {
     let (count, among) = (random.below(200), random.of(&[3, 10, 40]));
     let mut run = Run::new(1 + random.below(8) as u32);
     carry_out(tally, &mut run, &runs::list(random, extents, count, among));
-    let words = calls::session_summary(&run.session, 770).expect("a session that nobody else wrote to");
+    let words = calls::session_summary(&run.session, MOST_WORDS).expect("a session that nobody else wrote to");
     Part { reads: run.plain.log, words }
 }
 

@@ -1,8 +1,11 @@
 //! The requirements' own examples: every row of 'Sessions to try', the numbers of cold reads, the slots looked at, the hit
 //! shares, the sample texts, and the four quiet wrong joins.
 
-use jemqolu_tests::plain::session::{Reading, READS, WORDS};
-use jemqolu_tests::plain::COLD_BASE;
+use jemqolu_tests::plain::logs::LISTING_BYTES;
+use jemqolu_tests::plain::plans::LEVEL_WORDS;
+use jemqolu_tests::plain::session::{Reading, COUNTS, DIGITS, FIRSTS, NEXT, READS, SLOT, SLOTS, SUMS, WORDS};
+use jemqolu_tests::plain::summary::MOST_WORDS;
+use jemqolu_tests::plain::{names, COLD_BASE, MAX_EXTENTS};
 use jemqolu_tests::random::Random;
 use jemqolu_tests::{calls, made, refusal, Answer};
 
@@ -11,6 +14,9 @@ const SEVEN_WORDS: [u32; 7] = [65_537, 65_538, 2, 65_539, 3, 1, 2];
 const SUMMARY: [u32; 11] = [7, 3, 7, 3, 9, 9, 3, 7, 1, 2, 1];
 const FRONT: [u32; 11] = [4, 3, 7, 3, 9, 9, 7, 3, 0, 1, 0];
 const BACK: [u32; 8] = [3, 2, 3, 9, 9, 3, 1, 0];
+
+/// The largest distance, and the largest number of a cold read.
+const LAST: u32 = MAX_EXTENTS as u32;
 
 /// A session that has read these, and the answers.
 fn read_all(trace: &[u32]) -> (Vec<u32>, Vec<Answer<Reading>>) {
@@ -25,9 +31,18 @@ fn reading(word: u32, sums_read: u32, slots_looked: u32) -> Answer<Reading> {
 }
 
 #[test]
+fn the_numbers_of_the_requirements() {
+    assert_eq!((MAX_EXTENTS, SLOTS, SUMS.len(), DIGITS), (1024, 2048, 4095, 11));
+    assert_eq!([FIRSTS, COUNTS, SLOT, SUMS], [1..1025, 1025..2049, 2049..4097, 4097..8192]);
+    assert_eq!((READS, NEXT, WORDS), (0, 8192, 8193));
+    assert_eq!((names::NAME_WORDS, names::WORDS), (8194, 65_552));
+    assert_eq!((MOST_WORDS, LEVEL_WORDS, LISTING_BYTES), (3074, 6148, 20_480));
+}
+
+#[test]
 fn the_seven_reads() {
     let (session, answers) = read_all(&SEVEN);
-    let (sums_read, slots_looked) = ([0, 0, 9, 0, 8, 8, 7], [0, 1, 2, 3, 3, 1, 3]);
+    let (sums_read, slots_looked) = ([0, 0, DIGITS, 0, DIGITS - 1, DIGITS - 1, DIGITS - 2], [0, 1, 2, 3, 3, 1, 3]);
     let wanted = |read: usize| reading(SEVEN_WORDS[read], sums_read[read], slots_looked[read]);
     assert_eq!(answers, [0, 1, 2, 3, 4, 5, 6].map(wanted));
     assert_eq!(calls::session_summary(&session, 11), Ok(SUMMARY.to_vec()));
@@ -46,13 +61,13 @@ fn a_number_counts_the_extents_of_the_prefix_too() {
 
 #[test]
 fn the_watch_disregards_the_number() {
-    for words in [SEVEN_WORDS, [65_539, 65_792, 2, 65_537, 3, 1, 2]] {
+    for words in [SEVEN_WORDS, [65_539, COLD_BASE + LAST, 2, 65_537, 3, 1, 2]] {
         let mut watch = calls::watch_new(2, 4).expect("a new watch");
         for word in words {
             assert_eq!(calls::watch_read(&mut watch, word), Ok(0));
         }
         assert_eq!(watch, [2, 7, 3, 3]);
-        for word in [0, 257, 65_536, 65_793] {
+        for word in [0, LAST + 1, 65_536, COLD_BASE + LAST + 1] {
             assert_eq!(calls::watch_read(&mut watch, word), Err(refusal::NUMBER));
         }
     }
@@ -84,7 +99,7 @@ fn the_shares_of_cold_reads_alone() {
     for log in [&[][..], &[4, 0, 8, 1, 6]] {
         let summary = calls::summarize(log, 17).expect("a summary");
         let (session, answers) = read_all(log);
-        for size in [0, 3, 5, 256] {
+        for size in [0, 3, 5, LAST] {
             let mut watch = calls::watch_new(size, 4).expect("a new watch");
             for answer in answers.iter().flatten() {
                 calls::watch_read(&mut watch, answer.word as u32).expect("a cold read");
@@ -99,22 +114,21 @@ fn the_shares_of_cold_reads_alone() {
 }
 
 #[test]
-fn one_extent_at_read_512_and_513() {
-    let (_, answers) = read_all(&[5; 513]);
-    assert_eq!(answers[511], reading(1, 1, 1));
-    assert_eq!(answers[512], reading(1, 9, 1));
+fn one_extent_at_the_last_slot_and_after_it() {
+    let (_, answers) = read_all(&[5; SLOTS + 1]);
+    assert_eq!(answers[SLOTS - 1], reading(1, 1, 1));
+    assert_eq!(answers[SLOTS], reading(1, DIGITS, 1));
 }
 
 #[test]
-fn the_256_extents_and_another() {
-    let extents: Vec<u32> = (0..256).collect();
+fn all_extents_and_another() {
+    let extents: Vec<u32> = (0..LAST).collect();
     let (mut session, answers) = read_all(&extents);
-    let wanted = (1..=256).map(|number| reading(COLD_BASE + number, 0, number - 1));
+    let wanted = (1..=LAST).map(|number| reading(COLD_BASE + number, 0, number - 1));
     assert_eq!(answers, wanted.collect::<Vec<Answer<Reading>>>());
-    assert_eq!(answers[255], reading(65_792, 0, 255));
-    assert_eq!(calls::session_read(&mut session, 256), Err(refusal::EXTENTS));
-    assert_eq!(calls::session_read(&mut session, 0), reading(256, 9, 256));
-    assert_eq!(calls::session_read(&mut session, 256), Err(refusal::EXTENTS));
+    assert_eq!(calls::session_read(&mut session, LAST), Err(refusal::EXTENTS));
+    assert_eq!(calls::session_read(&mut session, 0), reading(LAST, DIGITS, LAST));
+    assert_eq!(calls::session_read(&mut session, LAST), Err(refusal::EXTENTS));
 }
 
 #[test]
@@ -122,7 +136,7 @@ fn read_1048576_and_the_next() {
     let mut random = Random::new(1);
     let mut session = made::session_over(&mut random, &[5], 1_048_574, 1);
     assert_eq!(session[READS], 1_048_575);
-    assert_eq!(calls::session_read(&mut session, 5), reading(1, 9, 1));
+    assert_eq!(calls::session_read(&mut session, 5), reading(1, DIGITS, 1));
     assert_eq!(session[READS], 1_048_576);
     assert_eq!(calls::session_read(&mut session, 5), Err(refusal::READS));
 }
@@ -130,12 +144,12 @@ fn read_1048576_and_the_next() {
 #[test]
 fn the_sample_plan_and_the_sample_listing() {
     let plan = b"(join\n (seg 4)\n (join\n  (seg 1)\n  (seg 2)))\n";
-    let carried = calls::plan(plan, &SEVEN, 3080, 11).expect("the sample plan");
-    assert_eq!((carried.words, carried.cleared), (SUMMARY.to_vec(), 3080));
+    let carried = calls::plan(plan, &SEVEN, 2 * LEVEL_WORDS, 11).expect("the sample plan");
+    assert_eq!((carried.words, carried.cleared), (SUMMARY.to_vec(), 2 * LEVEL_WORDS));
     let log = b"(trace\n (read 7)\n (read 3)\n (read 7)\n (read 9)\n (read 3)\n (read 3)\n (read 9))\n";
     let listing = b"(sizing\n (reads 7)\n (cold 3)\n (at 1 6)\n (at 2 4)\n (at 3 3))\n";
-    assert_eq!(calls::list(log, 8192), Ok(listing.to_vec()));
-    assert_eq!(calls::list(b"(trace)\n", 8192), Ok(b"(sizing\n (reads 0)\n (cold 0))\n".to_vec()));
+    assert_eq!(calls::list(log, LISTING_BYTES), Ok(listing.to_vec()));
+    assert_eq!(calls::list(b"(trace)\n", LISTING_BYTES), Ok(b"(sizing\n (reads 0)\n (cold 0))\n".to_vec()));
 }
 
 #[test]

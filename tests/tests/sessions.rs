@@ -1,7 +1,9 @@
 //! Sessions read by read, word for word.
 
+use jemqolu_tests::plain::last_slots::zeros;
 use jemqolu_tests::plain::session::{self, Reading, FIRSTS, NEXT, READS, SLOTS, WORDS};
-use jemqolu_tests::plain::{summary, COLD_BASE, MAX_EXTENTS, MAX_READS};
+use jemqolu_tests::plain::summary::{self, MOST_WORDS};
+use jemqolu_tests::plain::{COLD_BASE, MAX_EXTENTS, MAX_READS};
 use jemqolu_tests::random::Random;
 use jemqolu_tests::room::{rooms, within};
 use jemqolu_tests::tally::Tally;
@@ -40,7 +42,7 @@ fn all_reads(tally: &mut Tally, words: &[u32], extents: &[u32], longest: usize) 
 #[test]
 fn new_sessions() {
     let mut tally = Tally::new("new sessions");
-    for room in [0, 1, 2048, 2049, 2050, 2100, 5000] {
+    for room in [0, 1, WORDS - 1, WORDS, WORDS + 1, WORDS + 51, 3 * WORDS] {
         let wanted = if room < WORDS { Err(refusal::ROOM) } else { Ok(session::new()) };
         tally.same(calls::session_new(room), wanted, &room);
     }
@@ -73,17 +75,17 @@ fn all_short_traces_before_and_after_the_marks_move() {
 fn random_traces() {
     let mut tally = Tally::new("sessions of random traces");
     let mut random = Random::new(82);
-    for round in 0..90 {
+    for round in 0..12 {
         let most = [3, 40, MAX_EXTENTS][round % 3];
-        let trace = made::trace(&mut random, 1400, most);
+        let trace = made::trace(&mut random, 2 * SLOTS + 376, most);
         let mut words = calls::session_new(WORDS).expect("a new session");
         for extent in &trace {
             step(&mut tally, &mut words, *extent);
         }
         compare_summary(&mut tally, &words);
-        tally.same(calls::session_summary(&words, 770), Ok(summary::of(&trace)), &trace);
+        tally.same(calls::session_summary(&words, MOST_WORDS), Ok(summary::of(&trace)), &trace);
     }
-    tally.at_least(80_000);
+    tally.at_least(12 * SLOTS as u64);
 }
 
 #[test]
@@ -97,12 +99,11 @@ fn every_slot_of_the_tree() {
         words[session::SUMS].copy_from_slice(&session::sums_over(&leaves));
         words[NEXT] = slot as u32 + 1;
         let next = if slot + 1 == SLOTS { 0 } else { slot };
-        let zeros = (0..9).filter(|digit| next >> digit & 1 == 0).count() as u32;
-        let wanted = Reading { word: 1, sums_read: zeros, slots_looked: 1 };
+        let wanted = Reading { word: 1, sums_read: zeros(next), slots_looked: 1 };
         tally.same(calls::session_read(&mut words.clone(), 5), Ok(wanted), &slot);
         step(&mut tally, &mut words, 5);
     }
-    tally.at_least(1500);
+    tally.at_least(3 * SLOTS as u64);
 }
 
 #[test]
@@ -125,7 +126,7 @@ fn sessions_that_no_trace_has() {
 fn words_past_a_session() {
     let mut tally = Tally::new("sessions with words past them");
     let mut random = Random::new(85);
-    for past in [1, 2, 7, 400, 2049] {
+    for past in [1, 2, 7, 400, WORDS] {
         for _ in 0..12 {
             let mut words = made::session(&mut random);
             words.extend((0..past).map(|_| random.word()));
@@ -141,15 +142,15 @@ fn words_past_a_session() {
 
 #[test]
 fn at_the_limit_of_extents() {
-    let mut tally = Tally::new("sessions at 256 extents");
+    let mut tally = Tally::new("sessions at the limit of extents");
     let mut random = Random::new(86);
     let mut refused = 0;
-    for next in [256, 257, 300, 511, 512] {
+    for next in [MAX_EXTENTS, MAX_EXTENTS + 1, MAX_EXTENTS + 44, SLOTS - 1, SLOTS] {
         for _ in 0..6 {
             let extents = made::extents(&mut random, MAX_EXTENTS + 1);
-            let (another, known) = extents.split_last().expect("257 extents");
+            let (another, known) = extents.split_last().expect("one extent or more");
             let mut words = made::session_over(&mut random, known, 20, next);
-            for extent in [*another, known[0], *another, known[255], known[255]] {
+            for extent in [*another, known[0], *another, known[MAX_EXTENTS - 1], known[MAX_EXTENTS - 1]] {
                 refused += u32::from(session::read(&mut words.clone(), extent) == Err(refusal::EXTENTS));
                 step(&mut tally, &mut words, extent);
             }
@@ -160,7 +161,7 @@ fn at_the_limit_of_extents() {
             }
         }
     }
-    assert_eq!(refused, 90, "the reads of a 257th extent");
+    assert_eq!(refused, 90, "the reads of an extent past the limit");
     tally.at_least(480);
 }
 
@@ -168,9 +169,9 @@ fn at_the_limit_of_extents() {
 fn at_the_limit_of_reads() {
     let mut tally = Tally::new("sessions at 1,048,576 reads");
     let mut random = Random::new(87);
-    for count in [1, 2, 255, 256] {
+    for count in [1, 2, MAX_EXTENTS - 1, MAX_EXTENTS] {
         for left in [0, 1, 2] {
-            for next in [256, 400, 512] {
+            for next in [MAX_EXTENTS, MAX_EXTENTS + 144, SLOTS] {
                 let extents = made::extents(&mut random, count + 1);
                 let warm = MAX_READS as usize - left - count;
                 let mut words = made::session_over(&mut random, &extents[1..], warm, next);
@@ -189,14 +190,15 @@ fn at_the_limit_of_reads() {
 fn refusals_in_order() {
     let mut tally = Tally::new("sessions that are refused for two or three reasons");
     let mut random = Random::new(88);
-    let (known, another): (Vec<u32>, u32) = ((0..256).collect(), 256);
+    let (known, another): (Vec<u32>, u32) = ((0..MAX_EXTENTS as u32).collect(), MAX_EXTENTS as u32);
+    let next = MAX_EXTENTS + 44;
     let mut session = |known: &[u32], reads: usize, damaged: bool| {
-        let mut words = made::session_over(&mut random, known, reads - known.len(), 300);
+        let mut words = made::session_over(&mut random, known, reads - known.len(), next);
         words[session::SUMS.end - 1] ^= u32::from(damaged);
         words
     };
     let most = MAX_READS as usize;
-    let accepted = Reading { word: COLD_BASE as usize + MAX_EXTENTS, sums_read: 0, slots_looked: 300 };
+    let accepted = Reading { word: COLD_BASE as usize + MAX_EXTENTS, sums_read: 0, slots_looked: next as u32 };
     for (known, reads, damaged, wanted) in [
         (&known[..], most, true, Err(refusal::STATE)),
         (&known[..], most - 1, true, Err(refusal::STATE)),
@@ -204,7 +206,7 @@ fn refusals_in_order() {
         (&known[..], most, false, Err(refusal::READS)),
         (&known[..1], most, false, Err(refusal::READS)),
         (&known[..], most - 1, false, Err(refusal::EXTENTS)),
-        (&known[..255], most - 1, false, Ok(accepted)),
+        (&known[1..], most - 1, false, Ok(accepted)),
     ] {
         let mut words = session(known, reads, damaged);
         let wanted_summary = if damaged { Err(refusal::STATE) } else { Err(refusal::ROOM) };

@@ -1,31 +1,36 @@
 //! The slots looked at: from the slot below next down to the extent's mark, or all of them for a cold read.
 
-use jemqolu_tests::plain::session::{self, Reading, COUNTS, FIRSTS, NEXT, READS, SLOT, SLOTS, SUMS, WORDS};
-use jemqolu_tests::plain::{last_slots, trace, COLD_BASE, MAX_EXTENTS, MAX_READS};
+use jemqolu_tests::plain::last_slots::{self, zeros};
+use jemqolu_tests::plain::session::{self, Reading, COUNTS, DIGITS, FIRSTS, NEXT, READS, SLOT, SLOTS, SUMS, WORDS};
+use jemqolu_tests::plain::{trace, COLD_BASE, MAX_EXTENTS, MAX_READS};
 use jemqolu_tests::random::Random;
 use jemqolu_tests::tally::Tally;
-use jemqolu_tests::{calls, ffi, made, refusal, Answer};
+use jemqolu_tests::{calls, ffi, made, refusal, spread, Answer};
+use std::sync::OnceLock;
 
 /// The kinds of long logs.
 const KINDS: usize = 10;
 /// The reads of each long log.
-const LONG: usize = 12_000;
+const LONG: usize = 6 * SLOTS;
+/// The fewest moves of the marks in a long log: one in as many reads as there are slots, but for the first so many.
+const MOVES: usize = LONG / SLOTS - 1;
 /// What may stand in the places for the sums read and the slots looked at before a read.
 const PLACES: [[u32; 2]; 4] = [[77, 78], [0, 0], [u32::MAX, 1], [1, u32::MAX]];
 
-/// Which of 256 extents a read of a long log is of. The kinds: one extent, 3, 40 or 256 of them at random, skewed, a scan
-/// of 256 or of 255, a scan there and back, one extent more every 37 reads, or in phases.
+/// Which of all extents that a log may have a read of a long log is of. The kinds: one extent, 3, 40 or all of them at
+/// random, skewed, a scan of all or of all but one, a scan there and back, more and more extents, or in phases.
 fn place(random: &mut Random, kind: usize, read: usize) -> usize {
+    let there_and_back = 2 * (MAX_EXTENTS - 1);
     match kind {
         0 => 0,
         1 => random.below(3),
         2 => random.below(40),
         3 => random.below(MAX_EXTENTS),
         4 => made::skewed(random, MAX_EXTENTS),
-        5 => read % 256,
-        6 => read % 255,
-        7 => (read % 510).min(510 - read % 510),
-        8 => random.below((1 + read / 37).min(MAX_EXTENTS)),
+        5 => read % MAX_EXTENTS,
+        6 => read % (MAX_EXTENTS - 1),
+        7 => (read % there_and_back).min(there_and_back - read % there_and_back),
+        8 => random.below((1 + read * MAX_EXTENTS / (LONG - SLOTS)).min(MAX_EXTENTS)),
         _ => (read / 700 * 31 + random.below(9)) % MAX_EXTENTS,
     }
 }
@@ -46,25 +51,46 @@ struct Found {
     next: u32,
 }
 
+/// One more read of a session, and what it found.
+fn read_one(words: &mut [u32], extent: u32) -> Found {
+    let reading = calls::session_read(words, extent).expect("a read within the limits");
+    Found { reading, next: words[NEXT] - 1 }
+}
+
 /// The session that has read a log, from a new one, and what each read found.
 fn read_all(reads: &[u32]) -> (Vec<u32>, Vec<Found>) {
     let mut words = calls::session_new(WORDS).expect("a new session");
-    let read = |extent: &u32| {
-        let reading = calls::session_read(&mut words, *extent).expect("a read within the limits");
-        Found { reading, next: words[NEXT] - 1 }
-    };
-    let found = reads.iter().map(read).collect();
+    let found = reads.iter().map(|extent| read_one(&mut words, *extent)).collect();
     (words, found)
+}
+
+/// A long log, what each read of it found, and the plain session's answers, with whether both have the same words then.
+struct Run {
+    reads: Vec<u32>,
+    found: Vec<Found>,
+    plain: Vec<(Reading, bool)>,
+}
+
+/// A long log read by a session and by the plain one beside it.
+fn run(reads: Vec<u32>) -> Run {
+    let (mut words, mut wanted) = (calls::session_new(WORDS).expect("a new session"), session::new());
+    let (mut found, mut plain) = (Vec::new(), Vec::new());
+    for extent in &reads {
+        found.push(read_one(&mut words, *extent));
+        plain.push((session::accept(&mut wanted, *extent), words == wanted));
+    }
+    Run { reads, found, plain }
+}
+
+/// The long logs, read once for all tests.
+fn long_runs() -> &'static [Run] {
+    static RUNS: OnceLock<Vec<Run>> = OnceLock::new();
+    RUNS.get_or_init(|| long_logs().into_iter().map(run).collect())
 }
 
 /// Whether the marks moved before a read.
 fn moved(found: &[Found], read: usize) -> bool {
     read > 0 && found[read].next < found[read - 1].next
-}
-
-/// The zeros of a slot's number in nine binary digits.
-fn zeros(slot: usize) -> u32 {
-    format!("{slot:09b}").matches('0').count() as u32
 }
 
 /// A read with these words in the two places, which stand side by side: its answer, and what they hold after it.
@@ -77,16 +103,13 @@ fn read_into(words: &mut [u32], extent: u32, places: [u32; 2]) -> (Answer<usize>
 #[test]
 fn long_logs_by_the_log_alone() {
     let mut tally = Tally::new("answers of long logs by the log alone");
-    let mut moves = Vec::new();
-    for (kind, reads) in long_logs().iter().enumerate() {
-        let (_, found) = read_all(reads);
+    for (kind, Run { reads, found, .. }) in long_runs().iter().enumerate() {
         for (read, wanted) in last_slots::readings(reads).into_iter().enumerate() {
             tally.same(found[read].reading, wanted, &(kind, read, reads[read]));
         }
-        moves.push((0..LONG).filter(|read| moved(&found, *read)).count());
+        let moves = (0..LONG).filter(|read| moved(found, *read)).count();
+        assert!(moves >= MOVES, "{moves} moves of the marks in a log of kind {kind}");
     }
-    let (fewest, all) = (moves.iter().min(), moves.iter().sum::<usize>());
-    assert!(fewest >= Some(&20) && all >= 300, "{moves:?} moves of the marks");
     tally.at_least((KINDS * LONG) as u64);
 }
 
@@ -113,8 +136,7 @@ fn counted(reads: &[u32]) -> Vec<u32> {
 #[test]
 fn long_logs_counted_on_the_reads() {
     let mut tally = Tally::new("slots looked at, counted on the reads");
-    for (kind, reads) in long_logs().iter().enumerate() {
-        let (_, found) = read_all(reads);
+    for (kind, Run { reads, found, .. }) in long_runs().iter().enumerate() {
         for (read, wanted) in counted(reads).into_iter().enumerate() {
             tally.same(found[read].reading.slots_looked, wanted, &(kind, read, reads[read]));
         }
@@ -125,15 +147,13 @@ fn long_logs_counted_on_the_reads() {
 #[test]
 fn long_logs_and_the_plain_session() {
     let mut tally = Tally::new("distances, numbers, sums read and words of long logs");
-    for (kind, reads) in long_logs().iter().enumerate() {
-        let (mut words, mut wanted) = (calls::session_new(WORDS).expect("a new session"), session::new());
+    for (kind, Run { reads, found, plain }) in long_runs().iter().enumerate() {
         let distances = calls::distances(&[0, 0], reads, LONG).expect("a trace within the limits");
-        for (read, extent) in reads.iter().enumerate() {
-            let got = calls::session_read(&mut words, *extent).expect("a read within the limits");
-            let plain = session::accept(&mut wanted, *extent);
-            tally.same((got.word, got.sums_read), (plain.word, plain.sums_read), &(kind, read));
+        for (read, (wanted, same_words)) in plain.iter().enumerate() {
+            let got = found[read].reading;
+            tally.same((got.word, got.sums_read), (wanted.word, wanted.sums_read), &(kind, read));
             tally.same(got.word as u32, distances[read], &(kind, read));
-            tally.same(words == wanted, true, &(kind, read));
+            tally.same(*same_words, true, &(kind, read));
         }
     }
     tally.at_least((3 * KINDS * LONG) as u64);
@@ -143,8 +163,7 @@ fn long_logs_and_the_plain_session() {
 fn laws_of_long_logs() {
     let mut tally = Tally::new("laws of the slots looked at");
     let (mut cold, mut again, mut again_moved, mut any_moved) = (0, 0, 0, 0);
-    for (kind, reads) in long_logs().iter().enumerate() {
-        let (_, found) = read_all(reads);
+    for (kind, Run { reads, found, .. }) in long_runs().iter().enumerate() {
         for (read, Found { reading, next }) in found.iter().enumerate() {
             let (slots_looked, context) = (reading.slots_looked, (kind, read, reading, next));
             tally.same(slots_looked <= *next && *next < SLOTS as u32, true, &context);
@@ -154,61 +173,64 @@ fn laws_of_long_logs() {
                 continue;
             }
             tally.same(slots_looked as usize >= reading.word, true, &context);
-            if moved(&found, read) {
+            if moved(found, read) {
                 any_moved += 1;
                 tally.same(slots_looked as usize, reading.word, &context);
             }
             if reads[read] == reads[read - 1] {
                 again += 1;
-                again_moved += u32::from(moved(&found, read));
+                again_moved += usize::from(moved(found, read));
                 tally.same(slots_looked, 1, &context);
             }
         }
     }
-    let seen = (cold, again, again_moved, any_moved);
-    assert!(cold >= 1500 && again >= 15_000 && again_moved >= 30 && any_moved >= 300, "{seen:?}");
-    tally.at_least((2 * KINDS * LONG + 15_000) as u64);
+    // the log of one extent is read again at all its moves, that of three at a third of its reads
+    let seen = (again, again_moved, any_moved);
+    assert!(again >= 5 * LONG / 4 && again_moved >= MOVES && any_moved >= KINDS * MOVES / 2, "{seen:?}");
+    tally.same(cold, long_runs().iter().map(|run| trace::different(&run.reads)).sum(), &seen);
+    tally.at_least((2 * KINDS * LONG + again) as u64);
 }
 
 #[test]
 fn one_extent_across_moves_of_the_marks() {
     let mut tally = Tally::new("one extent read often");
-    let (_, found) = read_all(&[5; 1600]);
+    let (_, found) = read_all(&[5; 3 * SLOTS + 64]);
     let at = |read: usize| (found[read - 1].reading, found[read - 1].next);
     let warm = |sums_read: u32| Reading { word: 1, sums_read, slots_looked: 1 };
     tally.same(at(1), (Reading { word: COLD_BASE as usize + 1, sums_read: 0, slots_looked: 0 }, 0), &1);
-    // the marks move before the reads 513, 1,024 and 1,535
-    for reads in [2..=512, 513..=1023, 1024..=1534, 1535..=1600] {
-        for (read, next) in reads.zip(1..) {
-            tally.same(at(read), (warm(zeros(next as usize - 1)), next), &read);
-        }
+    // the second read finds the mark in slot 0, and so does each read before which the marks move
+    for read in 2..=found.len() {
+        let next = 1 + (read - 2) % (SLOTS - 1);
+        tally.same(at(read), (warm(zeros(next - 1)), next as u32), &read);
     }
-    tally.same(at(512), (warm(1), 511), &512);
-    tally.same(at(513), (warm(9), 1), &513);
-    tally.at_least(1602);
+    tally.same(at(SLOTS), (warm(1), SLOTS as u32 - 1), &SLOTS);
+    for moved in [SLOTS + 1, 2 * SLOTS, 3 * SLOTS - 1] {
+        tally.same(at(moved), (warm(DIGITS), 1), &moved);
+    }
+    tally.at_least(3 * SLOTS as u64 + 64 + 4);
 }
 
 #[test]
 fn every_extent_straight_after_the_marks_moved() {
     let mut tally = Tally::new("reads of every extent straight after the marks moved");
-    for v in 1..=MAX_EXTENTS {
-        let (words, _) = read_all(&(0..SLOTS).map(|read| (read % v) as u32).collect::<Vec<u32>>());
-        assert_eq!(words[NEXT], 512, "the marks move before the next read");
-        for distance in 1..=v {
+    for v in spread::numbers_of_extents(MAX_EXTENTS / 8).into_iter().filter(|v| *v > 0) {
+        let words = session::of(&(0..SLOTS).map(|read| (read % v) as u32).collect::<Vec<u32>>());
+        assert_eq!(words[NEXT] as usize, SLOTS, "the marks move before the next read");
+        for distance in spread::places(&[1..v + 1], 1 + v / 40, v) {
             let extent = (SLOTS - distance) % v;
             let wanted = Reading { word: distance, sums_read: zeros(v - distance), slots_looked: distance as u32 };
             tally.same(calls::session_read(&mut words.clone(), extent as u32), Ok(wanted), &(v, distance));
         }
         let cold = Reading { word: COLD_BASE as usize + v + 1, sums_read: 0, slots_looked: v as u32 };
         let wanted = if v == MAX_EXTENTS { Err(refusal::EXTENTS) } else { Ok(cold) };
-        tally.same(calls::session_read(&mut words.clone(), 1000), wanted, &v);
+        tally.same(calls::session_read(&mut words.clone(), MAX_EXTENTS as u32), wanted, &v);
     }
-    tally.at_least(33_000);
+    tally.at_least(500);
 }
 
 #[test]
-fn every_slot_below_every_next() {
-    let mut tally = Tally::new("one mark in every slot below every next");
+fn every_slot_below_the_next() {
+    let mut tally = Tally::new("one mark in every slot below many nexts");
     for slot in 0..SLOTS {
         // the slots without a mark hold 0, which is an extent too
         let (extent, another) = if slot % 2 == 0 { (0, 5) } else { (5, 0) };
@@ -216,7 +238,8 @@ fn every_slot_below_every_next() {
         (words[READS], words[FIRSTS.start], words[COUNTS.start]) = (4, extent, 3);
         (words[SLOT.start + slot], words[SUMS.start + slot]) = (extent, 1);
         session::resum(&mut words);
-        for next in slot + 1..=SLOTS {
+        // the nexts next to the slot, the last ones, and one in so many between, others for each slot
+        for next in spread::places(&[slot + 1..SLOTS + 1], SLOTS / 8, slot) {
             words[NEXT] = next as u32;
             let (slot, next) = if next == SLOTS { (0, 1) } else { (slot, next) };
             let wanted = Reading { word: 1, sums_read: zeros(slot), slots_looked: (next - slot) as u32 };
@@ -225,18 +248,18 @@ fn every_slot_below_every_next() {
             tally.same(calls::session_read(&mut words.clone(), another), Ok(wanted), &(slot, next));
         }
     }
-    tally.at_least(262_656);
+    tally.at_least(12 * SLOTS as u64);
 }
 
 #[test]
-fn at_256_extents_where_the_marks_move_next() {
-    let mut tally = Tally::new("256 extents and the marks about to move");
+fn at_the_limit_of_extents_where_the_marks_move_next() {
+    let mut tally = Tally::new("all extents and the marks about to move");
     let mut random = Random::new(182);
     let extents = made::extents(&mut random, MAX_EXTENTS + 1);
-    let (another, known) = extents.split_last().expect("257 extents");
-    let reads = [known, &made::trace_over(&mut random, known, MAX_EXTENTS)].concat();
+    let (another, known) = extents.split_last().expect("one extent or more");
+    let reads = [known, &made::trace_over(&mut random, known, SLOTS - MAX_EXTENTS)].concat();
     let (mut words, _) = read_all(&reads);
-    assert_eq!(words[NEXT], 512, "the marks move before the next read");
+    assert_eq!(words[NEXT] as usize, SLOTS, "the marks move before the next read");
     let before = words.clone();
     for places in PLACES {
         tally.same(read_into(&mut words, *another, places), (Err(refusal::EXTENTS), places), &places);
@@ -247,29 +270,30 @@ fn at_256_extents_where_the_marks_move_next() {
         let sums_read = zeros(MAX_EXTENTS - distance);
         let wanted = Reading { word: distance, sums_read, slots_looked: distance as u32 };
         tally.same(calls::session_read(&mut words, extent), Ok(wanted), &distance);
-        tally.same(words[NEXT], 257, &distance);
-        let wanted = Reading { word: 1, sums_read: zeros(256), slots_looked: 1 };
+        tally.same(words[NEXT] as usize, MAX_EXTENTS + 1, &distance);
+        let wanted = Reading { word: 1, sums_read: zeros(MAX_EXTENTS), slots_looked: 1 };
         tally.same(calls::session_read(&mut words, extent), Ok(wanted), &distance);
     }
-    tally.at_least(776);
+    tally.at_least(8 + 3 * MAX_EXTENTS as u64);
 }
 
 #[test]
 fn refusals_leave_both_places() {
     let mut tally = Tally::new("refused reads and what was lent to them");
     let mut random = Random::new(183);
-    let (known, another): (Vec<u32>, u32) = ((0..256).collect(), 256);
-    let most = MAX_READS as usize;
+    let (known, another): (Vec<u32>, u32) = ((0..MAX_EXTENTS as u32).collect(), MAX_EXTENTS as u32);
+    let (few, most) = (3 * MAX_EXTENTS, MAX_READS as usize);
+    let nexts = [MAX_EXTENTS, MAX_EXTENTS + 44, SLOTS - 1, SLOTS];
     for (damaged, reads, extents, wanted) in [
-        (true, 900, 3, refusal::STATE),
+        (true, few, 3, refusal::STATE),
         (false, most, 3, refusal::READS),
-        (false, 900, 256, refusal::EXTENTS),
+        (false, few, MAX_EXTENTS, refusal::EXTENTS),
         (true, most, 3, refusal::STATE),
-        (true, 900, 256, refusal::STATE),
-        (false, most, 256, refusal::READS),
-        (true, most, 256, refusal::STATE),
+        (true, few, MAX_EXTENTS, refusal::STATE),
+        (false, most, MAX_EXTENTS, refusal::READS),
+        (true, most, MAX_EXTENTS, refusal::STATE),
     ] {
-        for (next, places) in [256, 300, 511, 512].into_iter().flat_map(|next| PLACES.map(|places| (next, places))) {
+        for (next, places) in nexts.into_iter().flat_map(|next| PLACES.map(|places| (next, places))) {
             let mut words = made::session_over(&mut random, &known[..extents], reads - extents, next);
             words[SUMS.end - 1] ^= u32::from(damaged);
             let before = words.clone();
@@ -289,7 +313,8 @@ fn refusals_leave_both_places() {
 fn accepted_reads_set_both_places() {
     let mut tally = Tally::new("accepted reads and the places lent to them");
     let reads = [7, 3, 7, 9, 3, 3, 9];
-    let (sums_read, slots_looked) = ([0, 0, 9, 0, 8, 8, 7], [0, 1, 2, 3, 3, 1, 3]);
+    // the warm reads find their extents in the slots 0, 1, 4 and 3
+    let (sums_read, slots_looked) = ([0, 0, zeros(0), 0, zeros(1), zeros(4), zeros(3)], [0, 1, 2, 3, 3, 1, 3]);
     for places in PLACES {
         let (mut words, mut other) = (session::new(), session::new());
         for (read, extent) in reads.into_iter().enumerate() {
@@ -309,10 +334,10 @@ fn accepted_reads_set_both_places() {
 fn refused_reads_are_not_counted() {
     let mut tally = Tally::new("slots looked at with refused reads between");
     let mut random = Random::new(184);
-    let pool = made::extents(&mut random, 300);
+    let pool = made::extents(&mut random, 3 * MAX_EXTENTS);
     let mut words = calls::session_new(WORDS).expect("a new session");
-    let (mut accepted, mut answers, mut at_512) = (Vec::new(), Vec::new(), 0);
-    for _ in 0..20_000 {
+    let (mut accepted, mut answers, mut moving) = (Vec::new(), Vec::new(), 0);
+    for _ in 0..30_000 {
         let (extent, next) = (random.of(&pool), words[NEXT]);
         match calls::session_read(&mut words, extent) {
             Ok(reading) => {
@@ -321,13 +346,13 @@ fn refused_reads_are_not_counted() {
             }
             Err(number) => {
                 tally.same(number, refusal::EXTENTS, &extent);
-                at_512 += u32::from(next == 512);
+                moving += u32::from(next as usize == SLOTS);
             }
         }
     }
-    assert!(at_512 >= 5, "{at_512} reads refused where the marks move before the next");
+    assert!(moving >= 5, "{moving} reads refused where the marks move before the next");
     for (read, wanted) in last_slots::readings(&accepted).into_iter().enumerate() {
         tally.same(answers[read], wanted, &(read, accepted[read]));
     }
-    tally.at_least(20_000);
+    tally.at_least(30_000);
 }

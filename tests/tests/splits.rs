@@ -1,7 +1,8 @@
 //! One store split among customers: the shares, and the misses in all.
 
 use jemqolu_tests::plain::splits::{self, Customer, Split, MAX_CUSTOMERS, MAX_STORE};
-use jemqolu_tests::plain::{cache, session, split_tables, summary, trace, MAX_EXTENTS};
+use jemqolu_tests::plain::summary::{self, MOST_WORDS};
+use jemqolu_tests::plain::{cache, session, split_tables, trace, MAX_EXTENTS};
 use jemqolu_tests::random::Random;
 use jemqolu_tests::room::rooms;
 use jemqolu_tests::tally::Tally;
@@ -187,18 +188,20 @@ fn large_logs() {
 fn the_caches_of_a_large_store() {
     let mut tally = Tally::new("splits of the largest store, and caches");
     let mut random = Random::new(177);
-    for _ in 0..3 {
-        let logs: Vec<Vec<u32>> = (0..MAX_CUSTOMERS)
-            .map(|_| {
-                let extents = made::extents(&mut random, MAX_EXTENTS);
-                [extents.clone(), made::trace_over(&mut random, &extents, 300)].concat()
-            })
-            .collect();
-        let leasts = [0, 100, 0, 300, 0, 1, 2, 0];
-        let wanted = split_tables::best(MAX_STORE, &readers(MAX_STORE, &leasts, &logs));
+    // two customers with all extents that a log may have, the others with a quarter
+    let logs: Vec<Vec<u32>> = (0..MAX_CUSTOMERS)
+        .map(|customer| {
+            let extents = made::extents(&mut random, if customer < 2 { MAX_EXTENTS } else { MAX_EXTENTS / 4 });
+            [extents.clone(), made::trace_over(&mut random, &extents, 300)].concat()
+        })
+        .collect();
+    let mut customers = readers(MAX_STORE, &[0; MAX_CUSTOMERS], &logs);
+    for leasts in [[0; MAX_CUSTOMERS], [0, 100, 0, 300, 0, 1, 2, 0]] {
+        customers.iter_mut().zip(leasts).for_each(|(customer, least)| customer.least = least);
+        let wanted = split_tables::best(MAX_STORE, &customers);
         compare(&mut tally, MAX_STORE, &leasts, &summaries_of(&logs), &wanted);
     }
-    tally.at_least(15);
+    tally.at_least(2 * 5);
 }
 
 #[test]
@@ -231,7 +234,7 @@ fn by_session(reads: &[u32]) -> Vec<u32> {
     for extent in reads {
         calls::session_read(&mut words, *extent).expect("a read within the limits");
     }
-    calls::session_summary(&words, 770).expect("a sound session")
+    calls::session_summary(&words, MOST_WORDS).expect("a sound session")
 }
 
 /// The join of the summaries of some parts of these reads, empty parts among them.
@@ -239,25 +242,25 @@ fn by_joins(random: &mut Random, reads: &[u32]) -> Vec<u32> {
     let (mut joined, mut left) = (vec![0, 0], reads);
     for _ in 0..random.below(5) {
         let (part, rest) = left.split_at(random.below(left.len() + 1));
-        let part = calls::summarize(part, 770).expect("a part within the limits");
-        joined = calls::join(&joined, &part, 770).expect("a join within the limits");
+        let part = calls::summarize(part, MOST_WORDS).expect("a part within the limits");
+        joined = calls::join(&joined, &part, MOST_WORDS).expect("a join within the limits");
         left = rest;
     }
-    let last = calls::summarize(left, 770).expect("a part within the limits");
-    calls::join(&joined, &last, 770).expect("a join within the limits")
+    let last = calls::summarize(left, MOST_WORDS).expect("a part within the limits");
+    calls::join(&joined, &last, MOST_WORDS).expect("a join within the limits")
 }
 
 #[test]
 fn how_a_summary_was_made_does_not_show() {
     let mut tally = Tally::new("splits by sessions, by one call and by joins");
     let mut random = Random::new(179);
-    for round in 0..150 {
+    for round in 0..60 {
         let (customers, most) = (1 + random.below(4), [4, 30, MAX_EXTENTS][round % 3]);
         let store = random.below(12) as u32;
         let logs = logs(&mut random, customers, 400, most);
         let leasts = made::leasts(&mut random, store, customers);
         let wanted = splits::best_of_all(store, &readers(store, &leasts, &logs));
-        let whole = |log: &Vec<u32>| calls::summarize(log, 770).expect("a log within the limits");
+        let whole = |log: &Vec<u32>| calls::summarize(log, MOST_WORDS).expect("a log within the limits");
         let ways: [Vec<u32>; 3] = [
             logs.iter().flat_map(|log| by_session(log)).collect(),
             logs.iter().flat_map(whole).collect(),
@@ -267,5 +270,5 @@ fn how_a_summary_was_made_does_not_show() {
             compare(&mut tally, store, &leasts, &summaries, &wanted);
         }
     }
-    tally.at_least(1800);
+    tally.at_least(60 * 3 * 4);
 }

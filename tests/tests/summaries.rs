@@ -1,10 +1,11 @@
 //! Summaries of whole traces in one call.
 
-use jemqolu_tests::plain::{summary, trace, MAX_EXTENTS};
+use jemqolu_tests::plain::summary::{self, MOST_WORDS};
+use jemqolu_tests::plain::{trace, MAX_EXTENTS};
 use jemqolu_tests::random::Random;
 use jemqolu_tests::room::{rooms, within};
 use jemqolu_tests::tally::Tally;
-use jemqolu_tests::{calls, made, refusal};
+use jemqolu_tests::{calls, made, refusal, spread};
 
 /// Compares the summary of a trace in buffers of all lengths of interest.
 fn compare(tally: &mut Tally, trace: &[u32]) {
@@ -55,34 +56,55 @@ fn every_length_to_1100() {
 }
 
 #[test]
-fn every_number_of_extents() {
-    let mut tally = Tally::new("summaries of every number of extents");
+fn many_numbers_of_extents() {
+    let mut tally = Tally::new("summaries of many numbers of extents");
     let mut random = Random::new(25);
-    for count in 0..=MAX_EXTENTS {
+    for count in spread::numbers_of_extents(4) {
         let extents = made::extents(&mut random, count);
         let backwards: Vec<u32> = extents.iter().rev().copied().collect();
         compare(&mut tally, &[extents.clone(), backwards].concat());
         compare(&mut tally, &[extents.clone(), extents].concat());
     }
-    tally.at_least(3000);
+    tally.at_least(3 * MAX_EXTENTS as u64);
+}
+
+#[test]
+fn extents_that_a_table_puts_together() {
+    let mut tally = Tally::new("summaries, distances and joins of extents that a table puts together");
+    let mut random = Random::new(26);
+    let extents = made::together(MAX_EXTENTS + 1);
+    for count in [MAX_EXTENTS - 1, MAX_EXTENTS, MAX_EXTENTS + 1] {
+        for _ in 0..4 {
+            let reads =
+                [random.shuffled(&extents[..count]), made::trace_over(&mut random, &extents[..count], 700)].concat();
+            compare(&mut tally, &reads);
+            let (front, part) = reads.split_at(random.below(MAX_EXTENTS));
+            let [a, b] = [front, &part[..700]].map(summary::of);
+            tally.same(calls::join(&a, &b, MOST_WORDS), summary::join(&a, &b), &(&a, &b));
+            let wanted = summary::distances_after(&a, part);
+            tally.same(calls::distances(&a, part, part.len()), wanted, &(&a, part));
+        }
+    }
+    tally.at_least(3 * 4 * 3);
 }
 
 #[test]
 fn at_the_limit_of_extents() {
-    let mut tally = Tally::new("summaries at 256 and 257 extents");
+    let mut tally = Tally::new("summaries at the limit of extents and past it");
     let mut random = Random::new(22);
     let mut refused = 0;
-    for count in [255, 256, 257, 258, 300, 1000] {
+    let past = [1, 2, 44, 3 * MAX_EXTENTS].map(|more| MAX_EXTENTS + more);
+    for count in [MAX_EXTENTS - 1, MAX_EXTENTS].into_iter().chain(past) {
         for _ in 0..10 {
             let extents = made::extents(&mut random, count);
             let more = made::trace_over(&mut random, &extents, 500);
             for trace in [extents.clone(), [extents.clone(), more.clone()].concat(), [more, extents].concat()] {
-                refused += u32::from(summary::summarize(&trace) == Err(refusal::EXTENTS));
+                refused += usize::from(summary::summarize(&trace) == Err(refusal::EXTENTS));
                 compare(&mut tally, &trace);
             }
         }
     }
-    assert_eq!(refused, 120, "the traces of more than 256 extents");
+    assert_eq!(refused, past.len() * 10 * 3, "the traces of more than {MAX_EXTENTS} extents");
     tally.at_least(700);
 }
 
@@ -92,7 +114,7 @@ fn a_summary_is_well_formed_and_has_the_extents_of_its_trace() {
     let mut random = Random::new(23);
     for _ in 0..300 {
         let trace = made::trace(&mut random, 400, 60);
-        let words = calls::summarize(&trace, 770).expect("a trace within the limits");
+        let words = calls::summarize(&trace, MOST_WORDS).expect("a trace within the limits");
         let parts = summary::well_formed(&words).expect("a well-formed summary");
         tally.same(parts.firsts, &trace::firsts(&trace), &trace);
         tally.same(parts.recents, &trace::recents(&trace), &trace);

@@ -1,6 +1,7 @@
 //! Watches on one cache size.
 
 use jemqolu_tests::plain::session::WORDS;
+use jemqolu_tests::plain::summary::MOST_WORDS;
 use jemqolu_tests::plain::{cache, hit_share, trace, watch, COLD_BASE, MAX_EXTENTS, MAX_READS};
 use jemqolu_tests::random::Random;
 use jemqolu_tests::tally::Tally;
@@ -42,7 +43,7 @@ fn compare(tally: &mut Tally, words: &[u32], word: u32) {
 #[test]
 fn new_watches() {
     let mut tally = Tally::new("new watches");
-    for size in [0, 1, 5, 256, 257, 1 << 31, u32::MAX] {
+    for size in [0, 1, 5, LAST, LAST + 1, 1 << 31, u32::MAX] {
         for room in 0..9 {
             let wanted = if room < watch::WORDS { Err(refusal::ROOM) } else { Ok(watch::new(size)) };
             tally.same(calls::watch_new(size, room), wanted, &(size, room));
@@ -71,8 +72,8 @@ fn all_small_watches() {
 #[test]
 fn words_at_the_edges() {
     let mut tally = Tally::new("watches at the edges");
-    let edges = [0, 1, 2, 255, 256, 257, MOST - 1, MOST, MOST + 1, 1 << 31, u32::MAX];
-    for size in [0, 1, 256, u32::MAX] {
+    let edges = [0, 1, 2, LAST - 1, LAST, LAST + 1, MOST - 1, MOST, MOST + 1, 1 << 31, u32::MAX];
+    for size in [0, 1, LAST, u32::MAX] {
         for reads in edges {
             for cold in edges {
                 for hits in edges {
@@ -101,7 +102,7 @@ fn every_word_to_past_the_cold_reads() {
 fn the_number_of_a_cold_read_is_disregarded() {
     let mut tally = Tally::new("watches and the numbers of cold reads");
     for size in [0, 1, 2, LAST - 1, LAST, LAST + 1, COLD_BASE, COLD_BASE + 1, COLD_BASE + LAST, u32::MAX] {
-        for [reads, cold, hits] in [[0, 0, 0], [1, 0, 0], [7, 3, 3], [300, 256, 44], [MOST - 1, 0, MOST - 1]] {
+        for [reads, cold, hits] in [[0, 0, 0], [1, 0, 0], [7, 3, 3], [LAST + 44, LAST, 44], [MOST - 1, 0, MOST - 1]] {
             for number in 1..=LAST {
                 let mut words = vec![size, reads, cold, hits];
                 tally.same(calls::watch_read(&mut words, COLD_BASE + number), Ok(0), &(size, reads, number));
@@ -109,7 +110,7 @@ fn the_number_of_a_cold_read_is_disregarded() {
             }
         }
     }
-    tally.at_least(25_600);
+    tally.at_least(10 * 5 * 2 * MAX_EXTENTS as u64);
 }
 
 #[test]
@@ -158,8 +159,8 @@ fn random_words() {
         let reads = random.below(bound);
         let cold = random.below(reads + 2);
         let hits = random.below((reads + 2).saturating_sub(cold).max(1));
-        let (size, number, any) = (random.below(300) as u32, random.below(300) as u32, random.word());
-        let bit = 1 << random.below(32);
+        let [size, number] = [0, 1].map(|_| random.below(MAX_EXTENTS + 44) as u32);
+        let (any, bit) = (random.word(), 1 << random.below(32));
         let word = random.of(&[number, COLD_BASE + number, number ^ bit, (COLD_BASE + number) ^ bit, bit, any]);
         compare(&mut tally, &[size, reads as u32, cold as u32, hits as u32], word);
     }
@@ -174,7 +175,7 @@ fn words_of(random: &mut Random, reads: &[u32]) -> Vec<u32> {
         return reads.iter().map(|extent| read(extent).word as u32).collect();
     }
     let (front, back) = reads.split_at(random.below(reads.len() + 1));
-    let prefix = calls::summarize(front, 770).expect("a trace within the limits");
+    let prefix = calls::summarize(front, MOST_WORDS).expect("a trace within the limits");
     let words = |prefix: &[u32], part: &[u32]| calls::distances(prefix, part, part.len()).expect("a part of a trace");
     [words(&[0, 0], front), words(&prefix, back)].concat()
 }
@@ -184,10 +185,11 @@ fn watches_of_traces() {
     let mut tally = Tally::new("watches and caches");
     let mut random = Random::new(102);
     for round in 0..300 {
-        let (most_reads, most_extents) = if round % 2 == 0 { (200, 20) } else { (1200, 256) };
+        let (most_reads, most_extents) = if round % 2 == 0 { (200, 20) } else { (1200, MAX_EXTENTS) };
         let reads = made::trace(&mut random, most_reads, most_extents);
         let (given, plain) = (words_of(&mut random, &reads), trace::distances(&reads));
-        let size = random.of(&[0, 1, 2, 3, 5, 8, 13, 21, 34, 55, 89, 144, 200, 255, 256, COLD_BASE + 3, u32::MAX]);
+        let size =
+            random.of(&[0, 1, 2, 3, 5, 8, 13, 21, 34, 55, 89, 144, 200, LAST - 1, LAST, COLD_BASE + 3, u32::MAX]);
         let mut words = calls::watch_new(size, 4).expect("a new watch");
         let mut wanted = watch::new(size);
         for (word, plain) in given.iter().zip(&plain) {

@@ -1,8 +1,13 @@
 //! What a session answers, by the log alone: a number for each extent's last read, and no row of slots.
 
-use super::session::{Reading, SLOTS};
+use super::session::{Reading, DIGITS, SLOTS};
 use super::trace::Stack;
 use std::collections::HashMap;
+
+/// The zeros of a slot's number written in as many binary digits as the last slot's needs.
+pub fn zeros(slot: usize) -> u32 {
+    DIGITS - slot.count_ones()
+}
 
 /// The slot of the last read of each extent, and the next slot.
 #[derive(Default)]
@@ -12,6 +17,15 @@ pub struct LastSlots {
 }
 
 impl LastSlots {
+    /// The slots after these reads.
+    pub fn after(reads: &[u32]) -> Self {
+        let mut last = LastSlots::default();
+        for extent in reads {
+            last.read(*extent);
+        }
+        last
+    }
+
     /// Numbers the slots from 0 on, in their order.
     fn renumber(&mut self) {
         let mut by_slot: Vec<(usize, u32)> = self.slots.iter().map(|(extent, slot)| (*slot, *extent)).collect();
@@ -20,15 +34,14 @@ impl LastSlots {
         self.next = self.slots.len();
     }
 
-    /// One more read: the number of sums read, which is that of the zeros in the extent's slot written in nine binary
-    /// digits, or 0 for a cold read; and the number of slots looked at, which is the next slot less the extent's, or all
-    /// of the next slot for a cold read.
+    /// One more read: the number of sums read, which is that of the zeros in the extent's slot, or 0 for a cold read; and
+    /// the number of slots looked at, which is the next slot less the extent's, or all of the next slot for a cold read.
     pub fn read(&mut self, extent: u32) -> (u32, u32) {
         if self.next == SLOTS {
             self.renumber();
         }
         let counts = match self.slots.insert(extent, self.next) {
-            Some(slot) => (9 - slot.count_ones(), self.next - slot),
+            Some(slot) => (zeros(slot), self.next - slot),
             None => (0, self.next),
         };
         self.next += 1;

@@ -4,6 +4,9 @@ use super::trace::{self, Stack};
 use super::{texts, MAX_EXTENTS, MAX_READS};
 use crate::{refusal, Answer};
 
+/// Bytes that any listing fits into.
+pub const LISTING_BYTES: usize = 20_480;
+
 /// The text of a log.
 pub fn text(trace: &[u32]) -> Vec<u8> {
     let Some((last, front)) = trace.split_last() else { return b"(trace)\n".to_vec() };
@@ -77,12 +80,14 @@ pub fn read(text: &[u8]) -> Answer<Vec<u32>> {
 
 /// The listing of a log.
 pub fn listing(trace: &[u32]) -> Vec<u8> {
-    let words = Stack(Vec::new()).distances(trace);
+    let mut words = Stack(Vec::new()).distances(trace);
+    words.sort_unstable();
     let cold = words.iter().filter(|word| trace::is_cold(**word)).count();
     let mut rows = vec![format!("(reads {})", trace.len()), format!("(cold {cold})")];
     for size in 1..=trace::firsts(trace).len() as u32 {
-        let misses = words.iter().filter(|word| !trace::is_hit(**word, size)).count();
-        rows.push(format!("(at {size} {misses})"));
+        // the words of cold reads are the largest, so the hits come first
+        let hits = words.partition_point(|word| trace::is_hit(*word, size));
+        rows.push(format!("(at {size} {})", words.len() - hits));
     }
     format!("(sizing\n {})\n", rows.join("\n ")).into_bytes()
 }

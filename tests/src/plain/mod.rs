@@ -17,7 +17,7 @@ pub mod watch;
 /// The most reads of a log.
 pub const MAX_READS: u64 = 1_048_576;
 /// The most different extents of a log.
-pub const MAX_EXTENTS: usize = 256;
+pub const MAX_EXTENTS: usize = 1024;
 
 /// A cold read is written as this plus its number: how many different extents the log has had, its own included.
 pub const COLD_BASE: u32 = 65_536;

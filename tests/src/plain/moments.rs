@@ -7,9 +7,11 @@ use super::{trace, MAX_EXTENTS, MAX_READS};
 use crate::{refusal, Answer};
 use std::collections::HashMap;
 
-/// The log now, the logs under the names that are set, and how many names there is room for.
+/// The log now and the slots of its last reads, the logs under the names that are set, and how many names there is room
+/// for.
 pub struct Moments {
     pub log: Vec<u32>,
+    last: LastSlots,
     named: HashMap<u32, Vec<u32>>,
     room: u32,
 }
@@ -17,7 +19,7 @@ pub struct Moments {
 impl Moments {
     /// No read and no name yet, with room for the names from 1 to `room`.
     pub fn new(room: u32) -> Self {
-        Moments { log: Vec::new(), named: HashMap::new(), room }
+        Moments { log: Vec::new(), last: LastSlots::default(), named: HashMap::new(), room }
     }
 
     /// One more call: what a read answers. A refused call changes nothing.
@@ -27,7 +29,10 @@ impl Moments {
             Call::Name(name) | Call::Return(name) if !is_name(name) => return Err(refusal::NUMBER),
             Call::Name(name) if name > self.room => return Err(refusal::ROOM),
             Call::Name(name) => _ = self.named.insert(name, self.log.clone()),
-            Call::Return(name) => self.log = self.named.get(&name).ok_or(refusal::NAME)?.clone(),
+            Call::Return(name) => {
+                self.log = self.named.get(&name).ok_or(refusal::NAME)?.clone();
+                self.last = LastSlots::after(&self.log);
+            }
         }
         Ok(None)
     }
@@ -41,11 +46,7 @@ impl Moments {
             return Err(refusal::EXTENTS);
         }
         let word = trace::word_after(&self.log, extent) as usize;
-        let mut last = LastSlots::default();
-        for before in &self.log {
-            last.read(*before);
-        }
-        let (sums_read, slots_looked) = last.read(extent);
+        let (sums_read, slots_looked) = self.last.read(extent);
         self.log.push(extent);
         Ok(Reading { word, sums_read, slots_looked })
     }

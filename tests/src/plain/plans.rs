@@ -3,8 +3,8 @@
 use super::{summary, texts, trace, MAX_EXTENTS, MAX_READS};
 use crate::{refusal, Answer};
 
-/// The work words of each level of joins.
-pub const LEVEL_WORDS: usize = 1540;
+/// The work words of each level of joins: two summaries.
+pub const LEVEL_WORDS: usize = 2 * summary::MOST_WORDS;
 /// The most bytes of a plan text.
 pub const MAX_BYTES: usize = 65_536;
 /// The most joins open together.

@@ -1,27 +1,28 @@
 //! Sessions as words, in slots and sums.
 
-use super::summary;
-use super::{hit_share, COLD_BASE, MAX_EXTENTS, MAX_READS};
+use super::{hit_share, summary, trace, COLD_BASE, MAX_EXTENTS, MAX_READS};
 use crate::{refusal, Answer};
 use std::ops::Range;
 
-/// The slots.
-pub const SLOTS: usize = 512;
-/// The words of a session.
-pub const WORDS: usize = 2049;
+/// The slots, a power of two.
+pub const SLOTS: usize = 2048;
+/// The binary digits of a slot's number.
+pub const DIGITS: u32 = SLOTS.ilog2();
 
 /// Where the reads accepted, L, stand.
 pub const READS: usize = 0;
 /// Where F, the extents by first read, stands.
-pub const FIRSTS: Range<usize> = 1..257;
+pub const FIRSTS: Range<usize> = 1..1 + MAX_EXTENTS;
 /// Where H, the histogram, stands.
-pub const COUNTS: Range<usize> = 257..513;
+pub const COUNTS: Range<usize> = FIRSTS.end..FIRSTS.end + MAX_EXTENTS;
 /// Where the slots stand.
-pub const SLOT: Range<usize> = 513..1025;
+pub const SLOT: Range<usize> = COUNTS.end..COUNTS.end + SLOTS;
 /// Where the sums stand, the leaves first, the root last.
-pub const SUMS: Range<usize> = 1025..2048;
+pub const SUMS: Range<usize> = SLOT.end..SLOT.end + 2 * SLOTS - 1;
 /// Where the next slot stands.
-pub const NEXT: usize = 2048;
+pub const NEXT: usize = SUMS.end;
+/// The words of a session.
+pub const WORDS: usize = NEXT + 1;
 
 /// What a read answers: its word, which is its distance or for a cold read COLD_BASE plus its number, the number of sums
 /// read, and the number of slots looked at.
@@ -69,7 +70,7 @@ fn marked(words: &[u32]) -> Vec<u32> {
     marks(words).into_iter().map(|slot| words[SLOT][slot]).collect()
 }
 
-/// At most 256 marks, all below next, and next at most 512.
+/// At most as many marks as a log may have extents, all below next, and next at most the number of slots.
 fn marks_sound(words: &[u32]) -> bool {
     let (marks, next) = (marks(words), words[NEXT] as usize);
     marks.len() <= MAX_EXTENTS && next <= SLOTS && marks.iter().all(|slot| *slot < next)
@@ -77,10 +78,9 @@ fn marks_sound(words: &[u32]) -> bool {
 
 /// Different extents in the marked slots, and 0 in the others.
 fn slots_sound(words: &[u32]) -> bool {
-    let (marks, mut extents) = (marks(words), marked(words));
-    extents.sort_unstable();
-    let different = extents.windows(2).all(|pair| pair[0] != pair[1]);
-    different && (0..SLOTS).all(|slot| words[SLOT][slot] == 0 || marks.binary_search(&slot).is_ok())
+    let extents = marked(words);
+    let others_empty = (0..SLOTS).all(|slot| words[SUMS][slot] == 1 || words[SLOT][slot] == 0);
+    trace::different(&extents) == extents.len() && others_empty
 }
 
 /// F has the extents of the marked slots once each, and 0 after them.
@@ -117,10 +117,17 @@ pub fn sound(words: &[u32]) -> bool {
         && counts_sound(words)
 }
 
-/// Changes a slot and its leaf.
+/// Changes a slot and its leaf, and makes the sums above it true.
 fn put(words: &mut [u32], slot: usize, extent: u32, leaf: u32) {
     words[SLOT][slot] = extent;
-    words[SUMS][slot] = leaf;
+    let sums = &mut words[SUMS];
+    sums[slot] = leaf;
+    let mut place = slot;
+    while place != SUMS.len() - 1 {
+        let left = place - place % 2;
+        place = parent(place);
+        sums[place] = sums[left] + sums[left + 1];
+    }
 }
 
 /// The marks move, in order, to the first slots, and next becomes v.
@@ -167,7 +174,6 @@ pub fn way_up(sums: &[u32], slot: usize) -> (usize, u32) {
 pub fn accept(words: &mut [u32], extent: u32) -> Reading {
     if words[NEXT] as usize == SLOTS {
         gather(words);
-        resum(words);
     }
     let (mark, slots_looked) = walk_down(words, extent);
     let (word, sums_read) = match mark {
@@ -184,7 +190,6 @@ pub fn accept(words: &mut [u32], extent: u32) -> Reading {
         }
     };
     put(words, words[NEXT] as usize, extent, 1);
-    resum(words);
     words[NEXT] += 1;
     words[READS] += 1;
     Reading { word, sums_read, slots_looked }

@@ -3,7 +3,10 @@
 use super::trace::{self, Stack};
 use super::{hit_share, MAX_EXTENTS, MAX_READS};
 use crate::{refusal, Answer};
-use std::collections::HashSet;
+use std::collections::{HashMap, HashSet};
+
+/// The most words of a summary.
+pub const MOST_WORDS: usize = 2 + 3 * MAX_EXTENTS;
 
 /// The parts of a well-formed summary.
 pub struct Summary<'a> {
@@ -36,9 +39,9 @@ pub fn with_distances(trace: &[u32], distances: &[u32]) -> Vec<u32> {
     words(trace.len() as u64, &firsts, &trace::recents(trace), &counts)
 }
 
-/// The summary of a trace.
+/// The summary of a trace, by the LRU stack.
 pub fn of(trace: &[u32]) -> Vec<u32> {
-    with_distances(trace, &trace::distances(trace))
+    with_distances(trace, &Stack(Vec::new()).distances(trace))
 }
 
 /// The parts of these words, where they are well formed.
@@ -56,11 +59,16 @@ pub fn well_formed(words: &[u32]) -> Option<Summary<'_>> {
     formed.then_some(Summary { reads, firsts, recents, counts })
 }
 
-/// The distance of the first read in B of an extent that A has too: 1 plus the number of different extents that stand
-/// before it in R of A or before it in F of B.
-fn distance_across(a: &Summary, b: &Summary, extent: u32) -> usize {
-    let before = |list: &[u32]| list.iter().copied().take_while(|other| *other != extent).collect::<Vec<u32>>();
-    1 + trace::different(&[before(a.recents), before(b.firsts)].concat())
+/// The distances of the first reads in B of the extents that A has too, in the order of F of B: 1 plus the number of
+/// different extents that stand before it in R of A or before it in F of B.
+pub fn distances_across(a: &Summary, b: &Summary) -> Vec<usize> {
+    let in_a: HashMap<u32, usize> = a.recents.iter().copied().zip(0..).collect();
+    let nowhere = a.recents.len();
+    let places: Vec<usize> = b.firsts.iter().map(|extent| in_a.get(extent).copied().unwrap_or(nowhere)).collect();
+    let shared = (0..places.len()).filter(|read| places[*read] != nowhere);
+    // all before it in R of A, and of those before it in F of B the ones that stand after it in R of A or not there
+    let others = |read: usize| places[..read].iter().filter(|place| **place > places[read]).count();
+    shared.map(|read| 1 + places[read] + others(read)).collect()
 }
 
 /// The join of A, then B.
@@ -76,8 +84,8 @@ pub fn join_of(a: &Summary, b: &Summary) -> Vec<u32> {
             counts[place] += u64::from(*count);
         }
     }
-    for extent in a.firsts.iter().filter(|extent| b.firsts.contains(extent)) {
-        counts[distance_across(a, b, *extent) - 1] += 1;
+    for distance in distances_across(a, b) {
+        counts[distance - 1] += 1;
     }
     words(a.reads + b.reads, &firsts, &recents, &counts)
 }

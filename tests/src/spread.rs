@@ -1,0 +1,30 @@
+//! Some of many places or numbers, spread over all of them, with those at the edges.
+
+use crate::plain::MAX_EXTENTS;
+use std::ops::Range;
+
+/// Of these ranges, in order, the first two places and the last two of each, and one in so many of all places, from the
+/// one of this turn on; the turns from 0 on, so many of them, have every place among them.
+pub fn places(ranges: &[Range<usize>], among: usize, turn: usize) -> Vec<usize> {
+    let mut places: Vec<usize> = ranges.iter().cloned().flatten().skip(turn % among).step_by(among).collect();
+    for range in ranges {
+        places.extend(range.clone().take(2));
+        places.extend(range.clone().rev().take(2));
+    }
+    places.sort_unstable();
+    places.dedup();
+    places
+}
+
+/// Numbers of extents up to the limit: none, those about the powers of two, and one in so many of the others.
+pub fn numbers_of_extents(among: usize) -> Vec<usize> {
+    let powers = (0..=MAX_EXTENTS.ilog2()).map(|power| 1 << power..(2 << power).min(MAX_EXTENTS + 1));
+    let ranges: Vec<Range<usize>> = [0..1].into_iter().chain(powers).collect();
+    places(&ranges, among, 0)
+}
+
+/// Where the two numbers and the three lists stand of a summary of so many extents whose words start here.
+pub fn lists(start: usize, extents: usize) -> [Range<usize>; 4] {
+    let list = |place: usize| start + 2 + place * extents..start + 2 + (place + 1) * extents;
+    [start..start + 2, list(0), list(1), list(2)]
+}
