@@ -17,7 +17,7 @@ use Rattle.texts.proofs.Numbers.{ten, length-by, decimal-length}
 use Rattle.texts.proofs.LogSound.{sound}
 use Rattle.listing_texts.specs.Listings.{coldRow, atRows, listed, refusedText, sizesOf, listingOf}
 use Rattle.listing_texts.specs.Tallies.{missesBy}
-use Rattle.listing_texts.specs.Pages.{headRoom, sizeDigits, rowRoom, pageBytes, AddsUp}
+use Rattle.listing_texts.specs.Pages.{sizeDigits, rowRoom, pageBytes, AddsUp}
 use Rattle.listing_texts.proofs.RowLaws.{rowAt, rows-cons}
 use Rattle.listing_texts.proofs.Listings.{listing-read}
 

@@ -1,14 +1,14 @@
 -- The rows that 01 marks with a star, proved together by computation.
-use Prim.Native.Nat.{ℕ}
+use Prim.Native.Nat.{ℕ, _+_}
 use mathlib.Core.Path.{_≡_, refl, sym, ap, _∙_}
 use native.Mathlib.Omega.{arith}
-use mathlib.Core.Bool.{true, false}
+use mathlib.Core.Bool.{true, false, and-false}
 use lib.Dec.{leb}
-use borrow.Author.Tests.{leb-true}
+use borrow.Author.Tests.{leb-true, lt-leb}
 use lib.IntN.{negsuc}
 use lib.Ieee.{binary64, fin, round}
 use lib.ListN.{length}
-use mathlib.Core.List.{List, [], _∷_}
+use mathlib.Core.List.{List, [], _∷_, map}
 use Rattle.reuse.specs.Lists.{mem, allIn, distinct, remove, inside, outside, before, firsts, cleanup, from, sum, count}
 use Rattle.reuse.specs.Lru.{depth, touch, stack, reuses, since, distance, distances, countAt}
 use Rattle.reuse.specs.Cache.{lastRead, oldest, evict, admit, hits, cacheHits, cacheMisses, hitCount, servable}
@@ -26,21 +26,22 @@ use Rattle.after.specs.Calls.{afterCall}
 use Rattle.session_sums.specs.Sums.{pairs, sumsOf, zeros, same}
 use Rattle.session_marks.specs.Marks.{marked, tidy, slotFrom, lookedBelow}
 use Rattle.session_soundness.specs.Soundness.{soundRows}
-use Rattle.session.specs.Sessions.{marks, extents, stackOf, firstRow, sound}
-use Rattle.session.specs.Reads.{gathered, roomed, slotOf, lookedAt, moved, entered, taken, tooMany, readOf}
-use Rattle.session_summary.specs.Summaries.{sessionWords, summaryCall}
-use Rattle.whole.specs.Runs.{sessionAfter, answersOf}
-use Rattle.moments.specs.Names.{namesLength, isName, placeStart, lies}
+use Rattle.session.specs.declared.Answer.the-variants.{Cold, Distance}
+use Rattle.session.specs.Sessions.{fresh, marks, extents, stackOf, firstRow, sound}
+use Rattle.session.specs.Reads.{gathered, roomed, slotOf, lookedAt, moved, entered, taken, tooMany, readOf, sumsRead, slotsLooked}
+use Rattle.whole.specs.Runs.{answersOf, gives}
+use Rattle.moments.specs.Names.{placeLength, namesLength, isName, placeStart, lies, isSet}
 use Rattle.moments.proofs.Places.{names-lie}
 use Rattle.whole.specs.Owed.{readOwed}
-use Rattle.whole.specs.Moments.{stateAfter}
+use Rattle.whole.specs.Moments.{Unset}
 use Rattle.whole.specs.Remembered.{nothing, remember, owedBy, remembered}
-use Rattle.whole.specs.Groupings.{grouped}
+use Rattle.whole.specs.Groupings.{AllUnset, Grouping, parts, logOf, grouped, roomy}
 use Rattle.whole.specs.Looks.{lookedAlong}
 use Rattle.whole.specs.Counts.{cacheShare}
-use Rattle.whole.specs.Table.{HitSharesAre, five, seven, oddWords, tries, triesTold, again, againTold, Table}
+use Rattle.whole.specs.Table.{front, back, seven, sevenWords, frontWords, backWords, turnedWords, oddWords, five, HitSharesAre, partOf, bothOf, tries, triesTold, again, againTold, Table}
 use Rattle.whole.proofs.Moments.{run-answers}
 use Rattle.whole.proofs.Counts.{counts}
+use Rattle.whole.proofs.Whole.{groupings}
 
 -- a log of two reads, the first of them of 4, and the last too, has one extent
 one-extent : (t : List ℕ) → length t ≡ 2 → firsts t ≡ 4 ∷ 6 ∷ [] → stack t ≡ 4 ∷ 6 ∷ [] → ⊥
@@ -99,34 +100,56 @@ room-for-one : lies namesLength 1 ≡ true
 unfolding isName
 room-for-one = names-lie namesLength (omega arith) 1 refl
 
+-- the seven reads, by the session's own account
+seven-read : answersOf fresh seven
+    ≡ Cold 1 0 ∷ Cold 2 1 ∷ Distance 2 11 2 ∷ Cold 3 3 ∷ Distance 3 10 3 ∷ Distance 1 10 1 ∷ Distance 2 9 3 ∷ []
+unfolding answersOf readOf sound soundRows extents same blank marks sumsOf pairs tidy stackOf firstRow marked allIn distinct mem roomed gathered slotOf slotFrom taken tooMany depth moved entered zeros sum
+seven-read = refl
+
+-- the slots that they look at
+seven-looked : lookedAlong fresh seven
+    ≡ [] ∷ (0 ∷ []) ∷ (1 ∷ 0 ∷ []) ∷ (2 ∷ 1 ∷ 0 ∷ []) ∷ (3 ∷ 2 ∷ 1 ∷ []) ∷ (4 ∷ []) ∷ (5 ∷ 4 ∷ 3 ∷ []) ∷ []
+unfolding lookedAlong lookedAt lookedBelow readOf sound soundRows extents same blank marks sumsOf pairs tidy stackOf firstRow marked allIn distinct mem roomed gathered slotOf slotFrom taken tooMany depth moved entered zeros sum
+seven-looked = refl
+
+-- no name is set where no words are lent
+none-set : Unset []
+unfolding isSet lies
+none-set k = rw (lt-leb (placeStart k + placeLength) 0 (omega arith)) (and-false (isName k))
+
+-- what a grouping of parts by reads alone hands over, by its log's summary
+by-log : (g : Grouping) (t w : List ℕ) → Within t → AllUnset (parts g) → logOf (parts g) ≡ t → roomy g ≡ true → summaryOf t ≡ w → grouped g ≡ gives w
+by-log g t w short unset log room words = groupings t short g unset log ∙ rw (room, words)
+
 -- the rows of the calls and those of the definitions compute; the shares of the session and the watch are the log's
 pub table : Table
-unfolding distances distance since afterCall answersOf sessionAfter stateAfter grouped summaryCall sessionWords wrote joinCall missesCall shareCall shareOf wellFormed words summaryOf histogram joinOf joinedFirst joinedRecent joinedCounts joinedCount countFor shared across hitsOf missesOf servableOf readsOf extentsOf firstOf recentOf countsOf mem allIn distinct remove inside outside before firsts cleanup from sum count countAt reuses touch cacheMisses cacheHits hitCount servable hits admit evict oldest lastRead readOf sound soundRows extents firstRow same blank marks sumsOf pairs tidy stackOf marked roomed gathered slotOf slotFrom taken tooMany depth moved entered zeros lookedAlong lookedAt lookedBelow
+unfolding distances distance since depth afterCall wrote joinCall missesCall shareCall shareOf wellFormed words summaryOf histogram joinOf joinedFirst joinedRecent joinedCounts joinedCount countFor shared across hitsOf missesOf servableOf readsOf extentsOf firstOf recentOf countsOf mem allIn distinct remove inside outside before firsts cleanup from sum count countAt reuses touch cacheMisses cacheHits hitCount servable hits admit evict oldest lastRead AllUnset parts logOf roomy remembered remember readOwed isName lies placeStart
 table = record {
   sizes-defined = (refl, refl, refl, refl, refl);
   work-defined = λ p. refl;
-  reads-called = refl;
-  sums-called = refl;
-  looked-called = refl;
-  looked-defined = refl;
+  reads-called = seven-read;
+  sums-called = ap (map sumsRead) seven-read;
+  looked-called = ap (map slotsLooked) seven-read;
+  looked-defined = seven-looked;
   reads-defined = refl;
   later-called = refl;
   later-defined = (refl, refl);
   odd-called = refl;
   odd-defined = (refl, no-log);
-  summary-called = refl;
+  summary-called = by-log (partOf seven) seven sevenWords (short-log seven refl refl) (none-set, tt) refl refl refl;
   summary-defined = refl;
-  front-called = refl;
+  front-called = by-log (partOf front) front frontWords (short-log front refl refl) (none-set, tt) refl refl refl;
   front-defined = refl;
-  back-called = refl;
+  back-called = by-log (partOf back) back backWords (short-log back refl refl) (none-set, tt) refl refl refl;
   back-defined = refl;
-  join-called = refl;
+  join-called = by-log (bothOf front back) seven sevenWords (short-log seven refl refl) (none-set, (none-set, tt)) refl refl refl;
   join-defined = refl;
   empty-called = refl;
   empty-defined = (refl, refl);
   misses-called = (refl, refl, refl);
   misses-defined = (refl, refl, refl);
-  turned-called = refl;
+  turned-called =
+      by-log (bothOf (1 ∷ 2 ∷ []) (2 ∷ 1 ∷ [])) (1 ∷ 2 ∷ 2 ∷ 1 ∷ []) turnedWords (short-log (1 ∷ 2 ∷ 2 ∷ 1 ∷ []) refl refl) (none-set, (none-set, tt)) refl refl refl;
   turned-defined = (refl, refl);
   share-called = λ c. same-shares c [] NoReads (short-log [] refl refl) refl refl;
   share-defined = λ c. refl;
