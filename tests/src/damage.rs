@@ -197,7 +197,7 @@ fn add_above(words: &mut [u32], place: usize, number: u32) {
 
 /// Where the sums of each level stand among the sums, the leaves first, the root last.
 fn levels() -> Vec<Range<usize>> {
-    let starts = (0..=DIGITS).map(|level| 2 * SLOTS - (2 * SLOTS >> level));
+    let starts = (0..=DIGITS).map(|level| 2 * SLOTS - ((2 * SLOTS) >> level));
     starts.map(|start| start..start + (SUMS.len() + 1 - start) / 2).collect()
 }
 

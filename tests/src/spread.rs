@@ -1,7 +1,9 @@
 //! Some of many places or numbers, spread over all of them, with those at the edges.
 
 use crate::plain::MAX_EXTENTS;
+use std::iter;
 use std::ops::Range;
+use std::slice;
 
 /// Of these ranges, in order, the first two places and the last two of each, and one in so many of all places, from the
 /// one of this turn on; the turns from 0 on, so many of them, have every place among them.
@@ -16,10 +18,15 @@ pub fn places(ranges: &[Range<usize>], among: usize, turn: usize) -> Vec<usize> 
     places
 }
 
+/// Some places of one range in the same way.
+pub fn places_of(range: Range<usize>, among: usize, turn: usize) -> Vec<usize> {
+    places(slice::from_ref(&range), among, turn)
+}
+
 /// Numbers of extents up to the limit: none, those about the powers of two, and one in so many of the others.
 pub fn numbers_of_extents(among: usize) -> Vec<usize> {
     let powers = (0..=MAX_EXTENTS.ilog2()).map(|power| 1 << power..(2 << power).min(MAX_EXTENTS + 1));
-    let ranges: Vec<Range<usize>> = [0..1].into_iter().chain(powers).collect();
+    let ranges: Vec<Range<usize>> = iter::once(0..1).chain(powers).collect();
     places(&ranges, among, 0)
 }
 

@@ -101,7 +101,7 @@ fn each_line_removed_and_doubled() {
         let text = made::plan(&mut random, round % (MAX_DEPTH + 1)).text();
         let lines: Vec<&[u8]> = text.split_inclusive(|byte| *byte == b'\n').collect();
         // every line of short plans; of long ones the first two, the last two and a spread of 80
-        for place in spread::places(&[0..lines.len()], lines.len().div_ceil(80), round) {
+        for place in spread::places_of(0..lines.len(), lines.len().div_ceil(80), round) {
             let (front, back) = lines.split_at(place);
             compare_alone(&mut tally, &mut seen, &[front, &back[1..]].concat().concat());
             compare_alone(&mut tally, &mut seen, &[front, &back[..1], back].concat().concat());

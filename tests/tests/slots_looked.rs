@@ -216,7 +216,7 @@ fn every_extent_straight_after_the_marks_moved() {
     for v in spread::numbers_of_extents(MAX_EXTENTS / 8).into_iter().filter(|v| *v > 0) {
         let words = session::of(&(0..SLOTS).map(|read| (read % v) as u32).collect::<Vec<u32>>());
         assert_eq!(words[NEXT] as usize, SLOTS, "the marks move before the next read");
-        for distance in spread::places(&[1..v + 1], 1 + v / 40, v) {
+        for distance in spread::places_of(1..v + 1, 1 + v / 40, v) {
             let extent = (SLOTS - distance) % v;
             let wanted = Reading { word: distance, sums_read: zeros(v - distance), slots_looked: distance as u32 };
             tally.same(calls::session_read(&mut words.clone(), extent as u32), Ok(wanted), &(v, distance));
@@ -239,7 +239,7 @@ fn every_slot_below_the_next() {
         (words[SLOT.start + slot], words[SUMS.start + slot]) = (extent, 1);
         session::resum(&mut words);
         // the nexts next to the slot, the last ones, and one in so many between, others for each slot
-        for next in spread::places(&[slot + 1..SLOTS + 1], SLOTS / 8, slot) {
+        for next in spread::places_of(slot + 1..SLOTS + 1, SLOTS / 8, slot) {
             words[NEXT] = next as u32;
             let (slot, next) = if next == SLOTS { (0, 1) } else { (slot, next) };
             let wanted = Reading { word: 1, sums_read: zeros(slot), slots_looked: (next - slot) as u32 };
