@@ -70,7 +70,7 @@ enum jemqolu_refusal {
 #define JEMQOLU_WATCH_WORDS 4       /* a watch */
 #define JEMQOLU_NAME_WORDS 8194     /* 1 + 8,193: the place of a name; the names 1 to k need k times as many */
 #define JEMQOLU_NAMES_WORDS 65552   /* 8,194 * 8: all names */
-#define JEMQOLU_STACK_BYTES 73728  /* the stack of any call, beside what the thread and the caller use of it */
+#define JEMQOLU_STACK_BYTES 196608  /* the stack of any call, beside what the thread and the caller use of it */
 
 /* The summary of a list of reads, a whole part in one call.
  * Lent: the reads; `out`, as many words as the summary has. Answer: the words written. Refusals, in order: -8, -9, -6. */

@@ -1,4 +1,4 @@
--- The rows that 01 marks with a star, proved together by computation.
+-- The rows that 01 marks with a star, proved together: by computation, and what groupings hand over by the claim.
 use Prim.Native.Nat.{ℕ, _+_}
 use mathlib.Core.Path.{_≡_, refl, sym, ap, _∙_}
 use native.Mathlib.Omega.{arith}

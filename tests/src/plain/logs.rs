@@ -4,8 +4,8 @@ use super::trace::{self, Stack};
 use super::{texts, MAX_EXTENTS, MAX_READS};
 use crate::{refusal, Answer};
 
-/// Bytes that any listing fits into.
-pub const LISTING_BYTES: usize = 20_480;
+/// Bytes that any listing fits into: the lines before the rows of all sizes, and these rows.
+pub const LISTING_BYTES: usize = 64 + 23 * MAX_EXTENTS;
 
 /// The text of a log.
 pub fn text(trace: &[u32]) -> Vec<u8> {
