@@ -100,17 +100,13 @@ room-for-one : lies namesLength 1 ≡ true
 unfolding isName
 room-for-one = names-lie namesLength (omega arith) 1 refl
 
--- the seven reads, by the session's own account
-seven-read : answersOf fresh seven
-    ≡ Cold 1 0 ∷ Cold 2 1 ∷ Distance 2 11 2 ∷ Cold 3 3 ∷ Distance 3 10 3 ∷ Distance 1 10 1 ∷ Distance 2 9 3 ∷ []
-unfolding answersOf readOf sound soundRows extents same blank marks sumsOf pairs tidy stackOf firstRow marked allIn distinct mem roomed gathered slotOf slotFrom taken tooMany depth moved entered zeros sum
-seven-read = refl
-
--- the slots that they look at
-seven-looked : lookedAlong fresh seven
-    ≡ [] ∷ (0 ∷ []) ∷ (1 ∷ 0 ∷ []) ∷ (2 ∷ 1 ∷ 0 ∷ []) ∷ (3 ∷ 2 ∷ 1 ∷ []) ∷ (4 ∷ []) ∷ (5 ∷ 4 ∷ 3 ∷ []) ∷ []
-unfolding lookedAlong lookedAt lookedBelow readOf sound soundRows extents same blank marks sumsOf pairs tidy stackOf firstRow marked allIn distinct mem roomed gathered slotOf slotFrom taken tooMany depth moved entered zeros sum
-seven-looked = refl
+-- the seven reads: what the session answers, and the slots that it looks at
+seven-run : (answersOf fresh seven
+    ≡ Cold 1 0 ∷ Cold 2 1 ∷ Distance 2 11 2 ∷ Cold 3 3 ∷ Distance 3 10 3 ∷ Distance 1 10 1 ∷ Distance 2 9 3 ∷ [])
+    × (lookedAlong fresh seven
+    ≡ [] ∷ (0 ∷ []) ∷ (1 ∷ 0 ∷ []) ∷ (2 ∷ 1 ∷ 0 ∷ []) ∷ (3 ∷ 2 ∷ 1 ∷ []) ∷ (4 ∷ []) ∷ (5 ∷ 4 ∷ 3 ∷ []) ∷ [])
+unfolding answersOf lookedAlong lookedAt lookedBelow readOf sound soundRows extents same blank marks sumsOf pairs tidy stackOf firstRow marked allIn distinct mem roomed gathered slotOf slotFrom taken tooMany depth moved entered zeros sum
+seven-run = (refl, refl)
 
 -- no name is set where no words are lent
 none-set : Unset []
@@ -127,10 +123,10 @@ unfolding distances distance since depth afterCall wrote joinCall missesCall sha
 table = record {
   sizes-defined = (refl, refl, refl, refl, refl);
   work-defined = λ p. refl;
-  reads-called = seven-read;
-  sums-called = ap (map sumsRead) seven-read;
-  looked-called = ap (map slotsLooked) seven-read;
-  looked-defined = seven-looked;
+  reads-called = seven-run .0;
+  sums-called = ap (map sumsRead) (seven-run .0);
+  looked-called = ap (map slotsLooked) (seven-run .0);
+  looked-defined = seven-run .1;
   reads-defined = refl;
   later-called = refl;
   later-defined = (refl, refl);
