@@ -3,7 +3,7 @@ use reuse::MAX_EXTENTS;
 ghost use mathlib.Core.Path.{_≡_};
 ghost use mathlib.Core.List.{_++_};
 ghost use Prim.Native.Nat.{suc, min, _<_};
-ghost use lib.ListN.{length, take, drop};
+ghost use lib.ListN.{length, take, drop, replicate};
 ghost use Rattle.reuse.specs.Limits.{maxExtents};
 ghost use Rattle.reuse.specs.Lists.{mem, allIn, beside, distinct, firsts};
 ghost use Rattle.reuse_rows.specs.Rows.{padded};
@@ -25,26 +25,25 @@ fn bucket(x: u32) -> usize
     (x as u64 * FACTOR / STEP) as usize % PLACES
 }
 
-// For each place of a table, which word was the last to fall there, 1 for the first word; 0 where none did.
+// For each place of an empty table, which word was the last to fall there, 1 for the first word; 0 where none did.
 // Words past the limit of extents are not noted.
-fn hints(words: &[u32]) -> [u16; PLACES]
-    ensures { λ r. ⌜ r ≡ hintsOf (now (words .entry)) ⌝ }
+fn note(words: &[u32], table: &mut [u16; PLACES])
+    requires { ⌜ now table ≡ replicate tablePlaces 0 ⌝ }
+    ensures { λ _. ⌜ now (table .exit) ≡ hintsOf (now (words .entry)) ⌝ }
 {
     let mut n = words.len();
     if MAX_EXTENTS < n {
         n = MAX_EXTENTS;
     }
-    let mut table = [0u16; PLACES];
     let mut i: usize = 0;
     while i < n {
         let h = bucket(words[i]);
         i = i + 1;
         table[h] = i as u16;
     }
-    table
 }
 
-// Whether x stands among the words, by the table that `hints` makes of them.
+// Whether x stands among the words, by the table in which `note` has noted them.
 fn known(words: &[u32], hints: &[u16; PLACES], x: u32) -> bool
     ensures { λ r. ⌜ r ≡ lookedUp (now (words .entry)) (now (hints .entry)) x ⌝ }
 {
@@ -102,7 +101,8 @@ pub fn all_distinct(words: &[u32]) -> bool
 pub fn all_in(words: &[u32], among: &[u32]) -> bool
     ensures { λ r. ⌜ r ≡ allIn (now (words .entry)) (now (among .entry)) ⌝ }
 {
-    let table = hints(among);
+    let mut table = [0u16; PLACES];
+    note(among, &mut table);
     let mut i: usize = 0;
     while i < words.len() {
         if !known(among, &table, words[i]) {
@@ -118,7 +118,8 @@ pub fn all_in(words: &[u32], among: &[u32]) -> bool
 pub fn beside(words: &[u32], more: &[u32]) -> [u32; MAX_EXTENTS]
     ensures { λ r. ⌜ r ≡ padded (beside (now (words .entry)) (now (more .entry))) ⌝ }
 {
-    let table = hints(words);
+    let mut table = [0u16; PLACES];
+    note(words, &mut table);
     let mut row = reuse_copies::padded(words);
     let mut n = words.len();
     let mut i: usize = 0;

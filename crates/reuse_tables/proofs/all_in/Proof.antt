@@ -15,8 +15,8 @@ Inv-loop words among table i₀ i = Among words among i
 abbrev μ-loop : tie.MeasureT-loop
 μ-loop words among table i₀ i = length words - i
 
-hints-requires : tie.Need-hints-requires Inv-loop μ-loop
-hints-requires c κs = search needs
+note-requires : tie.Need-note-requires Inv-loop μ-loop
+note-requires c κs = search needs
 
 loop-holds : tie.Need-loop-holds Inv-loop μ-loop
 loop-holds c = among-start _ _
@@ -33,7 +33,7 @@ known-requires c κs = search needs
 returns : tie.Need-returns Inv-loop μ-loop
 returns c =
     among-not _ _ _ (c .before .before .before .before .before .loop .inv) (omega arith)
-    (sym (c .before .known .ensures ∙ looked-up _ _ _ (c .before .before .before .before .before .before .hints .ensures)) ∙ not-true _ (c .if1 .taken))
+    (sym (c .before .known .ensures ∙ looked-up _ _ _ (c .before .before .before .before .before .before .note .ensures)) ∙ not-true _ (c .if1 .taken))
 
 add-i : tie.Need-add-i Inv-loop μ-loop
 add-i c = search needs
@@ -44,7 +44,7 @@ loop-less c = search needs
 loop-again : tie.Need-loop-again Inv-loop μ-loop
 loop-again c =
     among-turn _ _ _ (c .before .before .before .before .before .loop .inv) (omega arith)
-    (sym (c .before .known .ensures ∙ looked-up _ _ _ (c .before .before .before .before .before .before .hints .ensures)) ∙ not-false _ (c .if1 .left))
+    (sym (c .before .known .ensures ∙ looked-up _ _ _ (c .before .before .before .before .before .before .note .ensures)) ∙ not-false _ (c .if1 .left))
 
 returns-2 : tie.Need-returns-2 Inv-loop μ-loop
 returns-2 c = among-end _ _ _ (c .before .loop .inv) (omega arith)
@@ -55,7 +55,7 @@ all-in-spec =
     (tie.spec
     Inv-loop
     μ-loop
-    hints-requires
+    note-requires
     loop-holds
     mul-known
     shared-slice-read-known

@@ -18,8 +18,8 @@ Inv-loop words more table row₀ n₀ i₀ row n i = Besides words more row n i
 abbrev μ-loop : tie.MeasureT-loop
 μ-loop words more table row₀ n₀ i₀ row n i = length more - i
 
-hints-requires : tie.Need-hints-requires Inv-loop μ-loop
-hints-requires c κs = search needs
+note-requires : tie.Need-note-requires Inv-loop μ-loop
+note-requires c κs = search needs
 
 padded-requires : tie.Need-padded-requires Inv-loop μ-loop
 padded-requires c κs = search needs
@@ -57,7 +57,7 @@ loop-less c = search needs
 loop-again : tie.Need-loop-again Inv-loop μ-loop
 loop-again c =
     let h = c .before .before .before .before .before .loop .inv in
-    let e = c .before .known .ensures ∙ looked-up _ _ _ (c .before .before .before .before .before .before .before .hints .ensures) in
+    let e = c .before .known .ensures ∙ looked-up _ _ _ (c .before .before .before .before .before .before .before .note .ensures) in
     ⊎-elim
     (λ w. rw (w .2, w .3) (beside-more _ _ _ _ _ h (omega arith) (sym e ∙ not-true _ (w .0 .taken)) (omega arith)))
     (λ w. rw (w .1, w .2) (beside-known _ _ _ _ _ h (omega arith) (sym e ∙ not-false _ (w .0 .left))))
@@ -72,7 +72,7 @@ beside-spec =
     (tie.spec
     Inv-loop
     μ-loop
-    hints-requires
+    note-requires
     padded-requires
     loop-holds
     mul-x

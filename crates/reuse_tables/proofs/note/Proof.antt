@@ -1,20 +1,20 @@
--- `reuse_tables::hints` meets its contract. The invariant is `Noting`.
+-- `reuse_tables::note` meets its contract. The invariant is `Noting`.
 use mathlib.Core.Logic.{⊎-elim}
 use Prim.Native.Nat.{_-_}
 use native.Mathlib.Omega.{arith}
 use Rattle.reuse_tables.proofs.Lookups.{Noting, note-start, note-turn, note-end}
 use borrow.Author.Needs.{needs}
-use Rattle.reuse_tables.proofs.hints.Statement.{statement}
-use Rattle.reuse_tables.proofs.hints.Tie as tie
+use Rattle.reuse_tables.proofs.note.Statement.{statement}
+use Rattle.reuse_tables.proofs.note.Tie as tie
 
 abbrev Inv-loop : tie.InvT-loop
-Inv-loop words n table₀ i₀ table i = Noting words n table i
+Inv-loop words table₀ n i₀ table i = Noting words n table i
 
 abbrev μ-loop : tie.MeasureT-loop
-μ-loop words n table₀ i₀ table i = n - i
+μ-loop words table₀ n i₀ table i = n - i
 
 loop-holds : tie.Need-loop-holds Inv-loop μ-loop
-loop-holds c = note-start _ _ (⊎-elim (λ w. omega arith) (λ w. omega arith) (c .if1 .came))
+loop-holds c = rw (c .before .before .pre) (note-start _ _ (⊎-elim (λ w. omega arith) (λ w. omega arith) (c .if1 .came)))
 
 mul-bucket : tie.Need-mul-bucket Inv-loop μ-loop
 mul-bucket c = search needs
@@ -34,8 +34,8 @@ cast-table c = omega (arith, c .before .before .before .loop .inv .most)
 mul-table : tie.Need-mul-table Inv-loop μ-loop
 mul-table c = search needs
 
-array-write-table : tie.Need-array-write-table Inv-loop μ-loop
-array-write-table c = search needs
+element-write-table : tie.Need-element-write-table Inv-loop μ-loop
+element-write-table c = search needs
 
 loop-less : tie.Need-loop-less Inv-loop μ-loop
 loop-less c = search needs
@@ -46,8 +46,8 @@ loop-again c = rw (c .bucket .ensures .0) (note-turn _ _ _ _ (c .before .before 
 returns : tie.Need-returns Inv-loop μ-loop
 returns c = note-end _ _ _ _ (c .before .loop .inv) (omega arith)
 
-pub hints-spec : {M : Type 1} → statement M
-hints-spec =
+pub note-spec : {M : Type 1} → statement M
+note-spec =
     tie.close
     (tie.spec
     Inv-loop
@@ -59,7 +59,7 @@ hints-spec =
     add-i
     cast-table
     mul-table
-    array-write-table
+    element-write-table
     loop-less
     loop-again
     returns)
