@@ -1,12 +1,13 @@
 -- The calls on named moments, case by case.
-use mathlib.Core.Path.{_≡_, sym, ap, _∙_}
+use mathlib.Core.Path.{_≡_, refl, sym, ap, _∙_}
 use Prim.Native.Nat.{ℕ, _+_, _<_, _≤_}
 use native.Mathlib.Omega.{arith}
 use mathlib.Core.List.{List, _++_}
 use mathlib.Core.Bool.{true, false}
-use lib.ListN.{length, take, drop, replicate, length-replicate}
+use lib.ListN.{length, take, drop, getD, replicate, length-replicate}
 use lib.Seq.{length-take-le}
 use borrow.Author.Tests.{le-leb, lt-leb}
+use Rattle.reuse.proofs.Sums.{getD-blank-row}
 use Rattle.reuse_rows.specs.Rows.{putAt}
 use Rattle.summary_calls.specs.declared.Written.the-variants.{Words}
 use Rattle.summary_calls.specs.Calls.{refused}
@@ -64,12 +65,31 @@ module _ (s : Session) (names : List ℕ) (k : ℕ) where
 pub apart : (v w : Named) → v ≡ w → (w .answer ≡ v .answer) × (w .names ≡ v .names)
 apart v w e = (sym (ap (λ (n : Named). n .answer) e), sym (ap (λ (n : Named). n .names) e))
 
+-- a row of n words that are all 0
+module _ (n : ℕ) (row : List ℕ) (e : row ≡ replicate n 0) where
+  blank-length : length row ≡ n
+  blank-length = ap length e ∙ length-replicate {A = ℕ} n 0
+
+  blank-at : (i : ℕ) → getD row i 0 ≡ 0
+  blank-at i = ap (λ (l : List ℕ). getD l i 0) e ∙ getD-blank-row n i
+
+  -- as many as the front of another
+  blank-front : (names : List ℕ) → n ≤ length names → row ≡ replicate (length (take n names)) 0
+  blank-front names h = e ∙ ap (λ (m : ℕ). replicate m 0) (sym (length-take-le n names h))
+
+-- the words of new names are such a row
+unnamed-blank : unnamed ≡ replicate namesLength 0
+unfolding unnamed
+unnamed-blank = refl
+
+pub unnamed-length : length unnamed ≡ namesLength
+unnamed-length = blank-length namesLength unnamed unnamed-blank
+
+pub unnamed-at : (i : ℕ) → getD unnamed i 0 ≡ 0
+unnamed-at = blank-at namesLength unnamed unnamed-blank
+
 -- words in which no name is set: too few, or enough
 module _ (names : List ℕ) where
-  unnamed-length : length unnamed ≡ namesLength
-  unfolding unnamed
-  unnamed-length = length-replicate {A = ℕ} namesLength 0
-
   pub new-short : length names < namesLength → newNames names ≡ refused 6 names
   unfolding newNames
   new-short h = wrote-short unnamed names (omega (arith, h, unnamed-length))
@@ -79,19 +99,20 @@ module _ (names : List ℕ) where
   unfolding putAt
   put-front = let z : 0 + length unnamed ≡ length unnamed = omega arith in ap (λ (n : ℕ). unnamed ++ drop n names) (z ∙ unnamed-length)
 
-  -- a front that is cleared
-  cleared : namesLength ≤ length names → unnamed ≡ replicate (length (take namesLength names)) 0
-  unfolding unnamed
-  cleared h = ap (λ (n : ℕ). replicate n 0) (sym (length-take-le namesLength names h))
+  -- new words at the front, the rest as it was
+  pub new-laid : namesLength ≤ length names → newNames names ≡ record { answer = Words namesLength; buffer = unnamed ++ drop namesLength names }
+  unfolding newNames
+  new-laid h =
+      wrote-all unnamed names namesLength unnamed-length h
+      ∙ ap (λ (b : List ℕ). record { answer = Words namesLength; buffer = b }) put-front
 
   -- the front is cleared, the rest is as it was
   pub new-all : namesLength ≤ length names → (y : List ℕ) → y ≡ replicate (length (take namesLength names)) 0
       → newNames names ≡ record { answer = Words namesLength; buffer = y ++ drop namesLength names }
-  unfolding newNames
   new-all h y e =
-      wrote-all unnamed names namesLength unnamed-length h
-      ∙ ap (λ (b : List ℕ). record { answer = Words namesLength; buffer = b })
-      (put-front ∙ ap (λ (l : List ℕ). l ++ drop namesLength names) (cleared h ∙ sym e))
+      new-laid h
+      ∙ ap (λ (l : List ℕ). record { answer = Words namesLength; buffer = l ++ drop namesLength names })
+      (blank-front namesLength unnamed unnamed-blank names h ∙ sym e)
 
 module _ (lent k : ℕ) where
   -- a place lies within the words where it ends there

@@ -6,13 +6,12 @@ use native.Mathlib.Decide.{decLt}
 use mathlib.Core.List.{List, [], _∷_, _++_}
 use mathlib.Core.Bool.{true, false, not, and-false}
 use lib.Dec.{eqb, leb}
-use lib.ListN.{length, take, drop, getD, set, replicate, length-set, length-drop, length-replicate, List·getD-append}
+use lib.ListN.{length, take, drop, getD, set, length-set, length-drop, List·getD-append}
 use borrow.Rule.Slice.PartMut.{midOf, putMid, mid-len}
 use lib.Seq.{drop-at, drop-drop, take-add, getD-take, getD-drop, length-take-le}
 use borrow.Author.Tests.{le-leb, lt-leb, leb-true}
 use Rattle.reuse.specs.Limits.{maxNames}
 use Rattle.reuse.proofs.Lists.{by-test, both}
-use Rattle.reuse.proofs.Sums.{getD-blank-row}
 use Rattle.reuse_rows.specs.Rows.{putAt, placed}
 use Rattle.reuse_copies.proofs.Puts.{put-cons, put-length, put-before, put-there, put-after}
 use Rattle.session_soundness.specs.Soundness.{Wide}
@@ -21,8 +20,8 @@ use Rattle.session_layout.specs.declared.Kept.{Kept}
 use Rattle.session_layout.specs.Layout.{sessionLength, part, keptIn, sessionLaid}
 use Rattle.session_layout.proofs.Laid.{placed-whole, laid-length, read-whole}
 use Rattle.session_layout.proofs.Enough.{kept-all}
-use Rattle.summary_calls.specs.Calls.{wrote}
 use Rattle.moments.specs.Names.{placeLength, namesLength, isName, placeStart, lies, placeWords, isSet, sessionUnder, namedIn, unnamed, newNames}
+use Rattle.moments.proofs.Calls.{unnamed-length, unnamed-at, new-laid}
 
 -- the numbers that are names
 pub name-range : (k : ℕ) → isName k ≡ true → (1 ≤ k) × (k ≤ maxNames)
@@ -184,13 +183,9 @@ module _ (names : List ℕ) (k : ℕ) where
 
 -- no name is set in new words
 pub new-unset : (names : List ℕ) → namesLength ≤ length names → (k : ℕ) → isSet (newNames names .buffer) k ≡ false
-unfolding newNames unnamed wrote
 new-unset names room k =
     by-test (isName k)
-    (λ is. rw (le-leb (length (replicate {A = ℕ} namesLength 0)) (length names) (omega (arith, long)))
-    (unset-word (replicate namesLength 0 ++ drop (length (replicate {A = ℕ} namesLength 0)) names) k
-    (List·getD-append (replicate namesLength 0) (drop (length (replicate {A = ℕ} namesLength 0)) names) 0 (placeStart k) (omega (arith, long, place-within k is)) ∙ getD-blank-row namesLength (placeStart k))))
+    (λ is. rw (new-laid names room)
+    (unset-word (unnamed ++ drop namesLength names) k
+    (List·getD-append unnamed (drop namesLength names) 0 (placeStart k) (omega (arith, unnamed-length, place-within k is)) ∙ unnamed-at (placeStart k))))
     (λ e. set-no-name _ k e)
-  where
-    long : length (replicate {A = ℕ} namesLength 0) ≡ namesLength
-    long = length-replicate {A = ℕ} namesLength 0
