@@ -34,14 +34,14 @@ enum jemqolu_refusal {
     JEMQOLU_REFUSED_NUMBER = 2,  /* in a text an extent above 4,294,967,295 or a seg above 1,048,576; a word given to a
                                     watch that is neither a distance from 1 to 1,024 nor a cold read of a number from 1
                                     to 1,024; a store above 1,024; a number of customers that is not 1 to 8; a name that is
-                                    not 1 to 8 */
+                                    not 1 to 8; a place past a log's end */
     JEMQOLU_REFUSED_SEGS = 3,    /* the segs of a plan do not add up to the log */
     JEMQOLU_REFUSED_PLAN = 4,    /* a plan text over 65,536 bytes, a ninth join open, a seventeenth part of one join */
     JEMQOLU_REFUSED_SUMMARY = 5, /* words that are not a well-formed summary */
     JEMQOLU_REFUSED_ROOM = 6,    /* fewer words or bytes lent than the answer needs */
     JEMQOLU_REFUSED_STATE = 7,   /* words that are not a sound session or watch, too few of them among these */
     JEMQOLU_REFUSED_READS = 8,   /* more than 1,048,576 reads would result, those of a prefix or of both sides of a join
-                                    counted */
+                                    counted, and a read put in */
     JEMQOLU_REFUSED_EXTENTS = 9, /* more than 1,024 different extents would result, counted so too */
     JEMQOLU_REFUSED_SHARES = 10, /* the least shares add up to more than the store */
     JEMQOLU_REFUSED_NAME = 11    /* a return to a name that is not set */
@@ -105,6 +105,15 @@ int64_t jemqolu_share(const uint32_t *words, size_t words_len, uint32_t size, do
  * Answer: the misses in all. Refusals, in order: -2 for the store, -2 for the number of customers, -5, -10, -6. */
 int64_t jemqolu_split(uint32_t store, const uint32_t *leasts, size_t leasts_len,
                       const uint32_t *summaries, size_t summaries_len, uint32_t *shares, size_t shares_len);
+
+/* What one more read can do: the misses of a cache of `size` extents that reads the log with a read of `extent` put in
+ * before the read at `place`, less its misses without that read, written to `*change`. Places count from 0; the log's
+ * length is the place after its last read. The change is from -1 to `size` + 1. It is 1 at size 0, and from size 1 up 0 where
+ * the read is put directly before or after a read of the same extent.
+ * Lent: the log; one int64_t. Answer: 0. Refusals, in order: -2 where the place is past the log's end; then -8 and -9 for the
+ * log with the read put in. */
+int64_t jemqolu_one_more(const uint32_t *log, size_t log_len, size_t place, uint32_t extent, uint32_t size,
+                         int64_t *change);
 
 /* Texts have one form a line, each line ended by a newline, with one leading space for each bracket that is open; the
  * closing brackets follow the last inner form. A number has 1 to 10 digits and no leading zero but 0 itself.
