@@ -1,0 +1,9 @@
+pub mod Steps
+pub mod Moved
+pub mod Integers
+pub mod Puts
+pub mod Changes
+pub mod Ends
+pub mod Refusals
+pub mod Reached
+pub mod Examples

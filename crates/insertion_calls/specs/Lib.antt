@@ -1,0 +1,5 @@
+pub mod Insertion
+pub mod Misses
+pub mod Calls
+pub mod Refusals
+pub mod Ends
