@@ -1,4 +1,4 @@
--- Numbers below 2 ^ 63 as signed ones, and their negatives.
+-- The negatives of numbers below 2 ^ 63, and answers read back from their bits.
 use mathlib.Core.Path.{_≡_, refl, ap, _∙_}
 use Prim.Native.Nat.{ℕ, zero, suc, _<_, _^_, min}
 use native.Mathlib.Omega.{arith}
@@ -7,22 +7,15 @@ use lib.Signed.{mag}
 use mir.Syntax.{w64}
 use mir.Val.{SFits, toZ, ofZ}
 use mir.ValLaws.{toZ-ofZ}
+use Rattle.reuse.proofs.Signed.{read-pos}
 use Rattle.summary_calls.specs.declared.Written.{Written}
 use Rattle.summary_calls.specs.declared.Written.the-variants.{Words, Refused}
 use Rattle.capi_answers.specs.Answers.{negative, counted, mostSigned, countedMost, Small}
 
--- the number itself
-pub pos-fits : (n : ℕ) → n < 2 ^ 63 → SFits w64 (pos n)
-pos-fits n h = record { sfits = h }
-
--- its negative
+-- the negative of a number
 pub negative-fits : (n : ℕ) → n < 2 ^ 63 → SFits w64 (negative n)
 negative-fits zero h = record { sfits = omega arith }
 negative-fits (suc n) h = record { sfits = omega arith }
-
--- the bits of a number are read back as the number
-pub read-pos : (n : ℕ) → n < 2 ^ 63 → toZ w64 n ≡ pos n
-read-pos n h = toZ-ofZ w64 (pos n) (pos-fits n h)
 
 -- 0 less the number is its negative
 pub zero-less : (n : ℕ) → n < 2 ^ 63 → toZ w64 0 -ℤ toZ w64 n ≡ negative n

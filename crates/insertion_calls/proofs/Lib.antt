@@ -4,6 +4,7 @@ pub mod Integers
 pub mod Puts
 pub mod Changes
 pub mod Ends
+pub mod Calls
 pub mod Refusals
 pub mod Reached
 pub mod Examples

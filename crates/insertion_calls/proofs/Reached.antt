@@ -22,7 +22,7 @@ use Rattle.insertion_calls.specs.Calls.{insertionCall}
 use Rattle.insertion_calls.specs.declared.InsertionAnswer.the-variants.{Change}
 use Rattle.insertion_calls.proofs.Puts.{length-put, mem-put}
 use Rattle.insertion_calls.proofs.Ends.{upper-end, lower-end}
-use Rattle.insertion_calls.proofs.Refusals.{refusals}
+use Rattle.insertion_calls.proofs.Calls.{call-change}
 
 -- a number below k is none of k, k + 1, and so on
 mem-below : (x k n : ℕ) → x < k → mem x (from k n) ≡ false
@@ -68,7 +68,7 @@ module _ (p x n : ℕ) (t : List ℕ) (these : (z : ℕ) → mem z (t ++ (x ∷ 
   -- so the call answers, where the log is short and n within the limit
   call-answers : p ≤ length t → length t < maxReads → n ≤ maxExtents → (c : ℕ) (d : ℤ) → changeOf c p x t ≡ d → insertionCall t p x c ≡ Change d
   call-answers l s f c d e =
-      refusals t p x c .answered .1 (l, record { reads = omega (arith, length-put p x t); extents = omega (arith, extents-most) })
+      call-change t p x c l (record { reads = omega (arith, length-put p x t); extents = omega (arith, extents-most) })
       ∙ ap Change e
 
 -- what a log and one read more read, by a list that is known

@@ -17,3 +17,4 @@ pub mod Misses
 pub mod Servable
 pub mod Traces
 pub mod Examples
+pub mod Signed

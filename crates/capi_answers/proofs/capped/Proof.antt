@@ -4,7 +4,7 @@ use Prim.Native.Nat.{min}
 use native.Mathlib.Omega.{arith}
 use lib.IntN.{pos}
 use Rattle.capi_answers.specs.Answers.{mostSigned}
-use Rattle.capi_answers.proofs.Signed.{read-pos}
+use Rattle.reuse.proofs.Signed.{read-pos}
 use borrow.Author.Needs.{needs}
 use Rattle.capi_answers.proofs.capped.Statement.{statement}
 use Rattle.capi_answers.proofs.capped.Tie as tie

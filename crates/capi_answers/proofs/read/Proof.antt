@@ -3,7 +3,8 @@ use mathlib.Core.Path.{sym, _∙_}
 use Prim.Native.Nat.{_+_}
 use native.Mathlib.Omega.{arith}
 use Rattle.reuse.specs.Written.{coldBase}
-use Rattle.capi_answers.proofs.Signed.{read-pos, read-back}
+use Rattle.reuse.proofs.Signed.{read-pos}
+use Rattle.capi_answers.proofs.Signed.{read-back}
 use borrow.Author.Needs.{needs}
 use Rattle.capi_answers.proofs.read.Statement.{statement}
 use Rattle.capi_answers.proofs.read.Tie as tie

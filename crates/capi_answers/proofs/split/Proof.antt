@@ -1,7 +1,8 @@
 -- `capi_answers::split` meets its contract.
 use mathlib.Core.Path.{sym, _∙_}
 use native.Mathlib.Omega.{arith}
-use Rattle.capi_answers.proofs.Signed.{read-pos, read-back}
+use Rattle.reuse.proofs.Signed.{read-pos}
+use Rattle.capi_answers.proofs.Signed.{read-back}
 use borrow.Author.Needs.{needs}
 use Rattle.capi_answers.proofs.split.Statement.{statement}
 use Rattle.capi_answers.proofs.split.Tie as tie

@@ -1,0 +1,51 @@
+// A pass over reads that counts the misses of a cache.
+use reuse_engine::Place;
+ghost use Rattle.insertion.specs.Passes.{Ready, MissesCounted};
+
+// The extents held after a pass, or one more than the limit, and the misses on the way.
+pub struct Count {
+    pub held: usize,
+    pub misses: u32,
+}
+
+// The reads are taken after the stack in the first n words: a miss is a cold read, or one of a distance above the size.
+pub fn count_misses(stack: &mut [u32], n: usize, reads: &[u32], size: u32) -> Count
+    requires { ⌜ Ready (now stack) n (now reads) ⌝ }
+    ensures { λ r. ⌜ MissesCounted (now (stack .entry)) n (now (reads .entry)) size (now (stack .exit)) (r .held) (r .misses) ⌝ }
+{
+    let most = size as usize;
+    let mut held = n;
+    let mut misses: u32 = 0;
+    let mut i: usize = 0;
+    while i < reads.len() {
+        let place = reuse_engine::touch(stack, held, reads[i]);
+        match place {
+            Place::Cold => {
+                held = held + 1;
+                misses = misses + 1;
+            }
+            Place::Depth(d) => {
+                if most < d {
+                    misses = misses + 1;
+                }
+            }
+            Place::Full => {
+                return Count {
+                    held: reuse::MAX_EXTENTS + 1,
+                    misses: misses,
+                };
+            }
+            Place::BadCount => {
+                return Count {
+                    held: held,
+                    misses: misses,
+                };
+            }
+        }
+        i = i + 1;
+    }
+    Count {
+        held: held,
+        misses: misses,
+    }
+}
