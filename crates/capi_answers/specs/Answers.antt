@@ -15,6 +15,8 @@ use Rattle.session.specs.declared.Answer.{Answer}
 use Rattle.session.specs.declared.Answer.the-variants.{Cold, Distance, Refused as NoRead}
 use Rattle.split_calls.specs.declared.SplitAnswer.{SplitAnswer}
 use Rattle.split_calls.specs.declared.SplitAnswer.the-variants.{Misses as SplitMisses, Refused as NoSplit}
+use Rattle.insertion_calls.specs.declared.InsertionAnswer.{InsertionAnswer}
+use Rattle.insertion_calls.specs.declared.InsertionAnswer.the-variants.{Change, Refused as NoChange}
 use Rattle.moments.specs.declared.MomentAnswer.{MomentAnswer}
 use Rattle.moments.specs.declared.MomentAnswer.the-variants.{Done, Refused as NotDone}
 use Rattle.watch.specs.declared.Outcome.{Outcome}
@@ -73,6 +75,16 @@ noted (NotCounted n) = negative n
 abbrev pub missedInAll : SplitAnswer → ℤ
 missedInAll (SplitMisses n) = pos n
 missedInAll (NoSplit n) = negative n
+
+-- 0 for a change of the misses, which may be negative itself, or the refusal
+abbrev pub changed : InsertionAnswer → ℤ
+changed (Change d) = pos 0
+changed (NoChange n) = negative n
+
+-- what stands in the change's place: the change, or what stood there
+abbrev pub changeLeft : InsertionAnswer → ℤ → ℤ
+changeLeft (Change d) was = d
+changeLeft (NoChange n) was = was
 
 -- 0 for a naming or a return that was done, or the refusal
 abbrev pub done : MomentAnswer → ℤ

@@ -1,4 +1,5 @@
 // Answers as one signed number: what was asked for, or the negative of the refusal's number.
+use insertion_calls::InsertionAnswer;
 use moments::MomentAnswer;
 use session::Answer;
 use split_calls::SplitAnswer;
@@ -10,7 +11,7 @@ use watch::Outcome;
 ghost use mathlib.Core.Path.{_≡_};
 ghost use Prim.Native.Nat.{min};
 ghost use lib.IntN.{pos};
-ghost use Rattle.capi_answers.specs.Answers.{negative, mostSigned, countedMost, missed, shared, shareLeft, told, sumsLeft, slotsLeft, noted, missedInAll, done};
+ghost use Rattle.capi_answers.specs.Answers.{negative, mostSigned, countedMost, missed, shared, shareLeft, told, sumsLeft, slotsLeft, noted, missedInAll, changed, changeLeft, done};
 
 // The largest signed number.
 const MOST: usize = 9223372036854775807;
@@ -112,6 +113,19 @@ pub fn split(a: SplitAnswer) -> i64
     match a {
         SplitAnswer::Misses(n) => n as i64,
         SplitAnswer::Refused(n) => refusal(n),
+    }
+}
+
+// 0 with the change of the misses left in its place, or the refusal.
+pub fn insertion(a: InsertionAnswer, place: &mut i64) -> i64
+    ensures { λ r. ⌜ (r ≡ changed a) × (now (place .exit) ≡ changeLeft a (now (place .entry))) ⌝ }
+{
+    match a {
+        InsertionAnswer::Change(d) => {
+            *place = d;
+            0
+        }
+        InsertionAnswer::Refused(n) => refusal(n),
     }
 }
 

@@ -77,7 +77,7 @@ module _ (stack : List ℕ) (n : ℕ) (reads : List ℕ) (c : ℕ) where
           → misses + k ≡ missesFrom c (take n stack) (take (i + 1) reads)
       next-misses k m =
           let s : missesFrom c (take n stack) (take (suc i) reads)
-                  ≡ missesFrom c (take n stack) (take i reads) + missOf c (take held row) (getD reads i 0) =
+          ≡ missesFrom c (take n stack) (take i reads) + missOf c (take held row) (getD reads i 0) =
           misses-next c (take n stack) reads i l ∙ rw (h .run .front) in
           rw (add-one i) (omega (arith, s, h .missed))
 

@@ -1,12 +1,12 @@
 -- Each refusal of the call on one more read is given exactly under its condition, in order.
-use mathlib.Core.Path.{_≡_, refl, ap}
+use mathlib.Core.Path.{_≡_, refl, sym, ap}
 use mathlib.Core.Logic.{_↔_}
 use Prim.Native.Nat.{ℕ, _≤_, _<_}
 use native.Mathlib.Omega.{arith}
 use mathlib.Core.Bool.{Bool, true, false, cond, true≢false, false≢true}
 use mathlib.Core.List.{List}
 use lib.Dec.{leb}
-use lib.IntN.{ℤ}
+use lib.IntN.{ℤ, pos}
 use lib.ListN.{length}
 use borrow.Author.Tests.{leb-true, leb-false, le-leb, lt-leb}
 use Rattle.reuse.specs.Limits.{maxReads, maxExtents}
@@ -17,6 +17,11 @@ use Rattle.insertion_calls.specs.Calls.{insertionCall}
 use Rattle.insertion_calls.specs.Refusals.{insertionRefusal, Refusals}
 use Rattle.insertion_calls.specs.declared.InsertionAnswer.{InsertionAnswer}
 use Rattle.insertion_calls.specs.declared.InsertionAnswer.the-variants.{Change, Refused}
+
+-- the number in an answer that is a change
+abbrev changeIn : InsertionAnswer → ℤ
+changeIn (Change d) = d
+changeIn (Refused n) = pos 0
 
 -- a change after three tests, each looked at after those before it
 module _ (d : ℤ) where
@@ -51,6 +56,13 @@ module _ (d : ℤ) where
   none-fails true false r = (λ e. absurd (omega (arith, ap insertionRefusal e)), λ e. absurd (false≢true (e .1)))
   none-fails false q r = (λ e. absurd (omega (arith, ap insertionRefusal e)), λ e. absurd (false≢true (e .0)))
 
+  -- no other change is answered
+  only-change : (e : ℤ) (p q r : Bool) → answerBy p q r ≡ Change e → e ≡ d
+  only-change e true true true h = sym (ap changeIn h)
+  only-change e true true false h = absurd (omega (arith, ap insertionRefusal h))
+  only-change e true false r h = absurd (omega (arith, ap insertionRefusal h))
+  only-change e false q r h = absurd (omega (arith, ap insertionRefusal h))
+
 module _ (log : List ℕ) (place x c : ℕ) where
   -- the three tests: the place, the reads of the longer log, and its extents
   abbrev placed : Bool
@@ -81,6 +93,11 @@ module _ (log : List ℕ) (place x c : ℕ) where
 
   extents-in : length (firsts (put place x log)) ≤ maxExtents → few ≡ true
   extents-in = le-leb (length (firsts (put place x log))) maxExtents
+
+  -- a change answered is the one defined
+  pub change-is : (d : ℤ) → insertionCall log place x c ≡ Change d → d ≡ changeOf c place x log
+  unfolding insertionCall
+  change-is d = only-change (changeOf c place x log) d placed short few
 
   -- of every call
   pub refusals : Refusals log place x c

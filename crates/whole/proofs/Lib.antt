@@ -11,5 +11,6 @@ pub mod Moves
 pub mod Counts
 pub mod HitShares
 pub mod Splits
+pub mod Insertions
 pub mod Whole
 pub mod Table

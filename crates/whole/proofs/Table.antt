@@ -39,6 +39,7 @@ use Rattle.whole.specs.Groupings.{AllUnset, Grouping, parts, logOf, grou
 use Rattle.whole.specs.Looks.{lookedAlong}
 use Rattle.whole.specs.Counts.{cacheShare}
 use Rattle.whole.specs.Table.{front, back, seven, sevenWords, frontWords, backWords, turnedWords, oddWords, five, HitSharesAre, partOf, bothOf, tries, triesTold, again, againTold, Table}
+use Rattle.insertion_calls.proofs.Examples.{between-cached, called}
 use Rattle.whole.proofs.Moments.{run-answers}
 use Rattle.whole.proofs.Counts.{counts}
 use Rattle.whole.proofs.Whole.{groupings}
@@ -157,4 +158,6 @@ table = record {
   tries-defined = (tries-owed namesLength room-for-one, tries-log);
   again-called = λ names unset fits. run-answers names unset again ∙ again-owed (length names) fits;
   again-defined = (again-owed namesLength room-for-one, again-log);
+  between-called = called .0;
+  between-defined = between-cached;
 }

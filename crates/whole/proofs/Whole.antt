@@ -39,6 +39,8 @@ use Rattle.whole.proofs.Moves.{first-move}
 use Rattle.whole.proofs.Counts.{counts}
 use Rattle.whole.proofs.HitShares.{serves, hit-shares, any-hit-shares}
 use Rattle.whole.proofs.Splits.{splits}
+use Rattle.insertion_calls.proofs.Refusals.{refusals as insertion-refusals}
+use Rattle.whole.proofs.Insertions.{insertions, ends-reached}
 
 -- a cache of this size holds the extent, by what was seen
 abbrev held : ℕ → Seen → Bool
@@ -93,7 +95,7 @@ runs t w = record {
   hit-shares = hit-shares t w;
 }
 
--- demand 3, named moments, the numbers of newcomers after any words, what a watch in words takes, what a hit share may be, and the split of one store
+-- demand 3, named moments, the numbers of newcomers after any words, what a watch in words takes, what a hit share may be, the split of one store, and one more read
 pub claim : Claim
 claim = record {
   calls = calls-owed;
@@ -116,4 +118,7 @@ claim = record {
   any-hit-shares = any-hit-shares;
   split-refusals = refusals;
   splits = splits;
+  insertion-refusals = insertion-refusals;
+  insertions = insertions;
+  ends-reached = ends-reached;
 }

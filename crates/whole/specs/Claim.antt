@@ -43,6 +43,8 @@ use Rattle.whole.specs.Moves.{FirstMove}
 use Rattle.whole.specs.Counts.{Counts}
 use Rattle.whole.specs.HitShares.{Serves, HitShares, AnyHitShares}
 use Rattle.whole.specs.Splits.{Customers, Splits}
+use Rattle.insertion_calls.specs.Refusals.{Refusals as InsertionRefusals}
+use Rattle.whole.specs.Insertions.{Insertions, EndsReached}
 use Rattle.whole.specs.Cuttings.{Cutting, cutParts, Follows, cutDistances, cutRoomy}
 
 -- an answer that is a distance of at most c
@@ -129,3 +131,9 @@ pub record Claim : Type 0 where
   pub split-refusals : (store : ℕ) (leasts words shares : List ℕ) → Refusals store leasts words shares
   -- and of logs within the limits it gives each customer its share: fewest misses in the customers' own caches, then the smallest total, then the smallest shares
   pub splits : (logs : List (List ℕ)) (store : ℕ) (leasts buffer : List ℕ) → Customers logs store leasts → Splits logs store leasts buffer
+  -- a read put into a log is refused exactly under the conditions of 2, 8 and 9, in this order
+  pub insertion-refusals : (log : List ℕ) (place x c : ℕ) → InsertionRefusals log place x c
+  -- else it changes the misses of the cache by −1 to one more than the size: of every log, without limits, and every place, extent and size
+  pub insertions : (t : List ℕ) (place x c : ℕ) → Insertions t place x c
+  -- both ends of that range are reached
+  pub ends-reached : (c : ℕ) → EndsReached c

@@ -12,5 +12,6 @@ pub mod Moves
 pub mod Counts
 pub mod HitShares
 pub mod Splits
+pub mod Insertions
 pub mod Claim
 pub mod Table

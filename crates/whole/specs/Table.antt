@@ -3,7 +3,7 @@ use Prim.Native.Nat.{ℕ, _*_, _^_}
 use mathlib.Core.Path.{_≡_}
 use mathlib.Core.List.{List, [], _∷_, _++_, map}
 use mathlib.Core.Bool.{true, false}
-use lib.IntN.{negsuc}
+use lib.IntN.{pos, negsuc}
 use lib.Ieee.{binary64, fin, round}
 use lib.ListN.{length, replicate}
 use Rattle.reuse.specs.Limits.{maxExtents, slotCount, sumCount, levels}
@@ -25,6 +25,8 @@ use Rattle.session.specs.Reads.{sumsRead, slotsLooked}
 use Rattle.session_summary.specs.Summaries.{shareCall as sessionShare}
 use Rattle.watch.specs.Watching.{newOf, shareCall as watchShare}
 use Rattle.whole.specs.Runs.{sessionAfter, answersOf, gives, outcome}
+use Rattle.insertion_calls.specs.declared.InsertionAnswer.the-variants.{Change}
+use Rattle.insertion_calls.specs.Calls.{insertionCall}
 use Rattle.moments.specs.declared.MomentAnswer.the-variants.{Done, Refused}
 use Rattle.moments.specs.Names.{namesLength, lies}
 use Rattle.whole.specs.Owed.{Seen}
@@ -164,3 +166,6 @@ pub record Table : Type 0 where
   -- naming again replaces: the log is 5 6 6
   pub again-called : CallsAre again againTold
   pub again-defined : (owedBy namesLength nothing again ≡ againTold) × (remembered namesLength again ≡ 5 ∷ 6 ∷ 6 ∷ [])
+  -- 4 4 with 5 put in between at size 1: +2, the cache has 3 misses in place of 1
+  pub between-called : insertionCall (4 ∷ 4 ∷ []) 1 5 1 ≡ Change (pos 2)
+  pub between-defined : (cacheMisses 1 (4 ∷ 5 ∷ 4 ∷ []) ≡ 3) × (cacheMisses 1 (4 ∷ 4 ∷ []) ≡ 1)

@@ -55,7 +55,7 @@ same-length : tie.Need-same-length Inv-loop μ-loop
 same-length c = c .before .before .before .before .touch .kept .0 ∙ c .before .before .before .before .before .before .before .before .loop .inv .run .long
 
 returns : tie.Need-returns Inv-loop μ-loop
-returns c = 
+returns c =
     let t = c .before .before .before .before .touch .ensures in
     count-full _ _ _ _ _ _ _ _ (c .before .before .before .before .before .before .before .before .loop .inv) (omega arith) _ _ (t .0) (t .1) (c .enum-told2 .given .1)
 
@@ -75,7 +75,7 @@ loop-less : tie.Need-loop-less Inv-loop μ-loop
 loop-less c = search needs
 
 loop-again : tie.Need-loop-again Inv-loop μ-loop
-loop-again c = 
+loop-again c =
     let h = c .before .before .before .before .before .before .before .loop .inv in
     let t = c .before .before .before .touch .ensures in
     ⊎-elim
