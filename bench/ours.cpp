@@ -60,6 +60,12 @@ uint32_t split(uint32_t store, const Words &leasts, const Words &summaries, Word
     return static_cast<uint32_t>(accepted(answer, "jemqolu_split"));
 }
 
+int64_t one_more(const Words &log, size_t place, uint32_t extent, uint32_t size) {
+    int64_t change = 0;
+    accepted(jemqolu_one_more(log.data(), log.size(), place, extent, size, &change), "jemqolu_one_more");
+    return change;
+}
+
 Words new_session() {
     Words session(JEMQOLU_SESSION_WORDS);
     accepted(jemqolu_session_new(session.data(), session.size()), "jemqolu_session_new");

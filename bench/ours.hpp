@@ -22,6 +22,9 @@ Words summaries_of(size_t customers, size_t reads, size_t extents);
 // Fills `shares` from its front, a word for each least share, and answers the misses in all.
 uint32_t split(uint32_t store, const Words &leasts, const Words &summaries, Words &shares);
 
+// What a read of the extent put in at the place does to the misses of a cache of this size.
+int64_t one_more(const Words &log, size_t place, uint32_t extent, uint32_t size);
+
 // A read's word, and the number of slots looked at.
 struct Reading {
     uint32_t word;

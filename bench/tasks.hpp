@@ -9,6 +9,7 @@ void session_table();
 void moment_table();
 void join_tables();
 void split_table();
+void one_more_table();
 void listing_table(const std::string &sizing, const std::string &peer, const std::string &folder);
 
 // One kind of work alone, on so many extents, for a profiler: so many reads, joins or splits.

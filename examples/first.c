@@ -1,7 +1,7 @@
 /* A first program: two parts of a log summarized and joined, the distances of each part after what was read before it,
- * the misses of every cache size, the same by a joining plan, the listing of a log text, a session read by read, returns
- * to a named moment, and refusals. Built and run from the root of the repository, once `rt staticlib capi` has built the
- * library:
+ * the misses of every cache size and what one more read does to them, the same summary by a joining plan, the listing of
+ * a log text, a session read by read, returns to a named moment, and refusals. Built and run from the root of the
+ * repository, once `rt staticlib capi` has built the library:
  *   gcc -Wall -Wextra -Iinclude -o target/first examples/first.c target/staticlib/libcapi.a && target/first
  * It prints what examples/first.txt has. */
 #include <inttypes.h>
@@ -52,6 +52,13 @@ static void print_misses(const uint32_t *summary, size_t count) {
         size_t misses = accepted(jemqolu_misses(summary, count, size), "misses");
         printf("a cache of %" PRIu32 " misses %zu of %" PRIu32 " reads\n", size, misses, summary[0]);
     }
+}
+
+/* What one more read, put in at a place, does to the misses of a cache of two extents. */
+static void print_one_more(const uint32_t *log, size_t count, size_t place, uint32_t extent) {
+    int64_t change = 0;
+    accepted(jemqolu_one_more(log, count, place, extent, 2, &change), "one more read");
+    printf("%" PRIu32 " put in at place %zu: %+" PRId64 " misses of a cache of 2\n", extent, place, change);
 }
 
 /* The log's summary by a plan text, which joins three parts, two of them first. */
@@ -158,6 +165,8 @@ int main(void) {
     print_distances("distances in the second part", a, a_len, log + 4, 3);
     print_distances("distances of 8 and 7 after both", whole, len, more, 2);
     print_misses(whole, len);
+    print_one_more(log, 7, 4, 8);
+    print_one_more(log, 7, 3, 3);
     print_plan(log, 7);
     print_listing();
     read_one_by_one(log, 7);

@@ -1,6 +1,7 @@
 #!/usr/bin/env python3
 """Cuts a log into parts, summarizes them in several processes, and joins them in two groupings; answers the reads of
-each part after those before it, says how the set of extents grows, and goes on from a named moment in two ways.
+each part after those before it, says how the set of extents grows, goes on from a named moment in two ways, and puts a
+stray read in.
 
 Prints what comes out, which python/example.txt has as well. Exit status 1 where something differs from the uncut log.
 Run python/build first.
@@ -16,6 +17,8 @@ LOG = os.path.join(os.path.dirname(os.path.abspath(__file__)), "..", "examples",
 LENGTHS = [1, 20_000, 0, 35_000, 9_999, 5_000, 30_000]
 SIZES = [0, 1, 16, 64, 128, 200]
 NUMBERS = [1, 50, 100, 150, 200]
+# an extent that the log has not
+STRAY = 7
 
 
 def reads_of(text):
@@ -76,14 +79,20 @@ def compare(name, words, uncut):
     return words == uncut
 
 
+def compare_counts(what, counts):
+    """Says the first of the counts, and whether all are the same."""
+    same = len(set(counts)) == 1
+    print("%s: %d%s" % (what, counts[0], "" if same else ", OTHERWISE %r" % counts))
+    return same
+
+
 def compare_misses(joined, uncut, text):
     """Says the misses of some sizes, by the joined summary, by the uncut one, and by the listing."""
     listed, same = listed_misses(text), True
     for size in SIZES:
-        counts = [jemqolu.misses(joined, size), jemqolu.misses(uncut, size), listed.get(size)]
-        agree = counts[0] == counts[1] and counts[2] in (counts[0], None)
-        print("misses of a cache of %d: %d%s" % (size, counts[0], "" if agree else ", OTHERWISE %r" % counts))
-        same = same and agree
+        counts = [jemqolu.misses(joined, size), jemqolu.misses(uncut, size)]
+        counts.append(listed.get(size, counts[0]))
+        same = compare_counts("misses of a cache of %d" % size, counts) and same
     return same
 
 
@@ -98,9 +107,17 @@ def compare_ways_on(log):
         for extent in reads:
             session.read(extent)
         counts = [session.misses(64), jemqolu.misses(jemqolu.summarize(front + reads), 64)]
-        agree = counts[0] == counts[1]
-        print("misses with the %s 1000 reads: %d%s" % (way, counts[0], "" if agree else ", OTHERWISE %r" % counts))
-        same = same and agree
+        same = compare_counts("misses with the %s 1000 reads" % way, counts) and same
+    return same
+
+
+def compare_stray_read(log, uncut):
+    """Says how many misses more some sizes have with a stray read in the middle of the log."""
+    middle, same = len(log) // 2, True
+    longer = jemqolu.summarize(log[:middle] + [STRAY] + log[middle:])
+    for size in (64, 200):
+        counts = [jemqolu.one_more(log, middle, STRAY, size), jemqolu.misses(longer, size) - jemqolu.misses(uncut, size)]
+        same = compare_counts("misses that a stray read adds to a cache of %d" % size, counts) and same
     return same
 
 
@@ -120,6 +137,7 @@ def main():
     say_growth(answers)
     same = compare_misses(joined, uncut, text) and same
     same = compare_ways_on(log) and same
+    same = compare_stray_read(log, uncut) and same
     return 0 if same else 1
 
 

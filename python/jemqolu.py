@@ -24,6 +24,7 @@ JEMQOLU_LIBRARY names another one.
 import ctypes
 import operator
 import os
+import sys
 from array import array
 from typing import NamedTuple
 
@@ -59,7 +60,7 @@ MEANINGS = {
     1: "a text line with which no text of the rule can go on, or an end too early",
     2: f"in a text an extent above {_MOST:,} or a seg above {MAX_SEG:,}; a read's answer given to a watch that is "
     f"neither a distance from 1 to {MAX_EXTENTS:,} nor cold with such a number; a store above {MAX_STORE:,}; a number "
-    f"of customers that is not 1 to {MAX_CUSTOMERS}; a name that is not 1 to {MAX_NAMES}",
+    f"of customers that is not 1 to {MAX_CUSTOMERS}; a name that is not 1 to {MAX_NAMES}; a place past a log's end",
     3: "the segs of a plan do not add up to the log",
     4: f"a plan text over {MAX_PLAN_BYTES:,} bytes, a ninth join open, a seventeenth part of one join",
     5: "words that are not a well-formed summary",
@@ -119,7 +120,7 @@ def _path():
 def _load(library):
     """The library's calls by their names, with their types."""
     lent = [ctypes.c_void_p, ctypes.c_size_t]
-    number, place = [ctypes.c_uint32], [ctypes.c_void_p]
+    number, count, place = [ctypes.c_uint32], [ctypes.c_size_t], [ctypes.c_void_p]
     types = {
         "summarize": lent + lent,
         "join": lent + lent + lent,
@@ -127,6 +128,7 @@ def _load(library):
         "misses": lent + number,
         "share": lent + number + place,
         "split": number + lent + lent + lent,
+        "one_more": lent + count + number + number + place,
         "plan": lent + lent + lent + lent,
         "list": lent + lent,
         "session_new": lent,
@@ -332,6 +334,18 @@ def split(store, leasts, summaries):
         with memoryview(_end_to_end(tuple(summaries))).cast("I") as words:
             misses = _call("split", number, least, words, room, calls=_calls_on([least, words]))
         return Split(misses, shares[: len(least)])
+
+
+def one_more(log, place, extent, size):
+    """What one more read can do: the misses of a cache of `size` extents that reads the log with a read of `extent` put in
+    before the read at `place`, less its misses without that read. Places count from 0; the log's length is the place
+    after its last read. The change is from -1 to `size` + 1. Refusals: 2, 8, 9."""
+    change = ctypes.c_int64(0)
+    # a place above this is past the end of every log, as this one is
+    at = _number(min(operator.index(place), sys.maxsize), sys.maxsize)
+    with _words(log) as reads:
+        _call("one_more", reads, at, _number(extent), _number(size), ctypes.byref(change), calls=_calls_on([reads]))
+    return change.value
 
 
 def plan(text, log):

@@ -3,7 +3,7 @@
 
 Run python/build first. What the calls answer is compared with an independent implementation in tests/. The answers of
 reads and what a watch takes of them are tested in test_answers.py, what a session tells beside them in
-test_slots_looked.py, its named moments in test_moments.py.
+test_slots_looked.py, its named moments in test_moments.py, what one more read can do in test_one_more.py.
 """
 import ctypes
 import mmap
@@ -81,6 +81,7 @@ def calls_on_lent_words():
     yield from (lambda words: jemqolu.distances(words, LOG), lambda words: jemqolu.distances([0, 0], words))
     yield from (lambda words: jemqolu.misses(words, 2), lambda words: jemqolu.share(words, 2))
     yield from (lambda words: jemqolu.plan(PLAN, words), lambda words: jemqolu.split(2, words, [SUMMARY]))
+    yield lambda words: jemqolu.one_more(words, 0, 7, 2)
 
 
 def calls_on_words():
@@ -298,6 +299,7 @@ class WrongKinds(unittest.TestCase):
     def test_sizes_and_extents(self):
         session = session_of(LOG)
         calls = (lambda size: jemqolu.misses(SUMMARY, size), lambda size: jemqolu.share(SUMMARY, size))
+        calls += (lambda extent: jemqolu.one_more(LOG, 4, extent, 2), lambda size: jemqolu.one_more(LOG, 4, 8, size))
         calls += (session.misses, session.share, session.read, jemqolu.Watch)
         for call in calls:
             for number in (-1, MOST + 1, 1 << 64, 1 << 20_000):

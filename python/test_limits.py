@@ -1,7 +1,8 @@
 #!/usr/bin/env python3
 """Tests at the limit of different extents: all calls take as many, none takes one more, and all lengths suffice.
 
-Run python/build first. Sessions and watches at this limit are tested in test_answers.py and test_slots_looked.py.
+Run python/build first. Sessions and watches at this limit are tested in test_answers.py and test_slots_looked.py, one more
+read in test_one_more.py.
 """
 import random
 import sys
