@@ -1,3 +1,4 @@
+pub mod Examples
 pub mod Steps
 pub mod Moved
 pub mod Integers
@@ -7,4 +8,3 @@ pub mod Ends
 pub mod Calls
 pub mod Refusals
 pub mod Reached
-pub mod Examples

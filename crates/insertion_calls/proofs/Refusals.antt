@@ -3,7 +3,7 @@ use mathlib.Core.Path.{_≡_, refl, sym, ap}
 use mathlib.Core.Logic.{_↔_}
 use Prim.Native.Nat.{ℕ, _≤_, _<_}
 use native.Mathlib.Omega.{arith}
-use mathlib.Core.Bool.{Bool, true, false, cond, true≢false, false≢true}
+use mathlib.Core.Bool.{Bool, true, false, cond, false≢true}
 use mathlib.Core.List.{List}
 use lib.Dec.{leb}
 use lib.IntN.{ℤ, pos}
@@ -12,6 +12,7 @@ use borrow.Author.Tests.{leb-true, leb-false, le-leb, lt-leb}
 use Rattle.reuse.specs.Limits.{maxReads, maxExtents}
 use Rattle.reuse.specs.Lists.{firsts}
 use Rattle.reuse.specs.Traces.{Within}
+use Rattle.reuse.proofs.Tests.{exactly-first, exactly-second, exactly-third}
 use Rattle.insertion_calls.specs.Insertion.{put, changeOf}
 use Rattle.insertion_calls.specs.Calls.{insertionCall}
 use Rattle.insertion_calls.specs.Refusals.{insertionRefusal, Refusals}
@@ -28,26 +29,12 @@ module _ (d : ℤ) where
   abbrev answerBy : Bool → Bool → Bool → InsertionAnswer
   answerBy p q r = cond p (cond q (cond r (Change d) (Refused 9)) (Refused 8)) (Refused 2)
 
-  -- 2 where the first fails
-  first-fails : (p q r : Bool) → insertionRefusal (answerBy p q r) ≡ 2 ↔ p ≡ false
-  first-fails true true true = (λ e. absurd (omega arith), λ e. absurd (true≢false e))
-  first-fails true true false = (λ e. absurd (omega arith), λ e. absurd (true≢false e))
-  first-fails true false r = (λ e. absurd (omega arith), λ e. absurd (true≢false e))
-  first-fails false q r = (λ e. refl, λ e. refl)
-
-  -- 8 where the second fails
-  second-fails : (p q r : Bool) → insertionRefusal (answerBy p q r) ≡ 8 ↔ ((p ≡ true) × (q ≡ false))
-  second-fails true true true = (λ e. absurd (omega arith), λ e. absurd (true≢false (e .1)))
-  second-fails true true false = (λ e. absurd (omega arith), λ e. absurd (true≢false (e .1)))
-  second-fails true false r = (λ e. (refl, refl), λ e. refl)
-  second-fails false q r = (λ e. absurd (omega arith), λ e. absurd (false≢true (e .0)))
-
-  -- 9 where the third fails
-  third-fails : (p q r : Bool) → insertionRefusal (answerBy p q r) ≡ 9 ↔ ((p ≡ true) × (q ≡ true) × (r ≡ false))
-  third-fails true true true = (λ e. absurd (omega arith), λ e. absurd (true≢false (e .2)))
-  third-fails true true false = (λ e. (refl, refl, refl), λ e. refl)
-  third-fails true false r = (λ e. absurd (omega arith), λ e. absurd (false≢true (e .1)))
-  third-fails false q r = (λ e. absurd (omega arith), λ e. absurd (false≢true (e .0)))
+  -- its refusal's number
+  number : (p q r : Bool) → insertionRefusal (answerBy p q r) ≡ cond p (cond q (cond r 0 9) 8) 2
+  number true true true = refl
+  number true true false = refl
+  number true false r = refl
+  number false q r = refl
 
   -- the change where none fails
   none-fails : (p q r : Bool) → answerBy p q r ≡ Change d ↔ ((p ≡ true) × (q ≡ true) × (r ≡ true))
@@ -104,17 +91,18 @@ module _ (log : List ℕ) (place x c : ℕ) where
   unfolding insertionCall
   refusals =
       let d : ℤ = changeOf c place x log in
-      let two = first-fails d placed short few in
-      let eight = second-fails d placed short few in
-      let nine = third-fails d placed short few in
+      let same = number d placed short few in
+      let two = exactly-first 2 8 9 (λ e. omega arith) (λ e. omega arith) (λ e. omega arith) 0 (λ e. omega arith) placed short few in
+      let eight = exactly-second 2 8 9 (λ e. omega arith) (λ e. omega arith) (λ e. omega arith) 0 (λ e. omega arith) placed short few in
+      let nine = exactly-third 2 8 9 (λ e. omega arith) (λ e. omega arith) (λ e. omega arith) 0 (λ e. omega arith) placed short few in
       let none = none-fails d placed short few in
       record {
-        two = (λ e. leb-false place (length log) (two .0 e), λ l. two .1 (lt-leb place (length log) l));
-        eight = (
+        two = rw same (λ e. leb-false place (length log) (two .0 e), λ l. two .1 (lt-leb place (length log) l));
+        eight = rw same (
           λ e. let h = eight .0 e in (in-log (h .0), leb-false (length (put place x log)) maxReads (h .1)),
           λ h. eight .1 (log-in (h .0), lt-leb (length (put place x log)) maxReads (h .1)),
         );
-        nine = (
+        nine = rw same (
           λ e. let h = nine .0 e in (in-log (h .0), in-reads (h .1), leb-false (length (firsts (put place x log))) maxExtents (h .2)),
           λ h. nine .1 (log-in (h .0), reads-in (h .1), lt-leb (length (firsts (put place x log))) maxExtents (h .2)),
         );

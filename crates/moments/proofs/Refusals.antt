@@ -1,11 +1,11 @@
 -- Each refusal of a naming and of a return is given exactly under its condition, in order, and leaves what was there.
 use mathlib.Core.Path.{_≡_, refl}
-use mathlib.Core.Logic.{_↔_}
-use Prim.Native.Nat.{ℕ, _<_}
+use Prim.Native.Nat.{ℕ}
 use native.Mathlib.Omega.{arith}
-use mathlib.Core.Bool.{Bool, true, false, cond, true≢false, false≢true}
+use mathlib.Core.Bool.{Bool, true, false, cond}
 use mathlib.Core.List.{List}
 use lib.ListN.{length}
+use Rattle.reuse.proofs.Tests.{exactly-first, exactly-second, exactly-third}
 use Rattle.session.specs.declared.Session.{Session}
 use Rattle.session.specs.Sessions.{sound}
 use Rattle.moments.specs.declared.MomentAnswer.{MomentAnswer}
@@ -19,34 +19,13 @@ use Rattle.moments.proofs.Places.{set-name}
 abbrev pub answerBy : ℕ → ℕ → ℕ → MomentAnswer → Bool → Bool → Bool → MomentAnswer
 answerBy a b c rest p q r = cond p (cond q (cond r rest (Refused c)) (Refused b)) (Refused a)
 
--- each number exactly under its condition, where that answer has another
-module _ (a b c : ℕ) (next : a < c) (last : c < b) (rest : MomentAnswer) where
-  pub exactly-first : (momentRefusal rest ≡ a → ⊥) → (p q r : Bool) → momentRefusal (answerBy a b c rest p q r) ≡ a ↔ p ≡ false
-  exactly-first h true true true = (λ e. absurd (h e), λ e. absurd (true≢false e))
-  exactly-first h true true false = (λ e. absurd (omega arith), λ e. absurd (true≢false e))
-  exactly-first h true false r = (λ e. absurd (omega arith), λ e. absurd (true≢false e))
-  exactly-first h false q r = (λ e. refl, λ e. refl)
-
-  pub exactly-second : (momentRefusal rest ≡ b → ⊥) → (p q r : Bool) → momentRefusal (answerBy a b c rest p q r) ≡ b ↔ ((p ≡ true) × (q ≡ false))
-  exactly-second h true true true = (λ e. absurd (h e), λ e. absurd (true≢false (e .1)))
-  exactly-second h true true false = (λ e. absurd (omega arith), λ e. absurd (true≢false (e .1)))
-  exactly-second h true false r = (λ e. (refl, refl), λ e. refl)
-  exactly-second h false q r = (λ e. absurd (omega arith), λ e. absurd (false≢true (e .0)))
-
-  pub exactly-third : (momentRefusal rest ≡ c → ⊥) → (p q r : Bool)
-      → momentRefusal (answerBy a b c rest p q r) ≡ c ↔ ((p ≡ true) × (q ≡ true) × (r ≡ false))
-  exactly-third h true true true = (λ e. absurd (h e), λ e. absurd (true≢false (e .2)))
-  exactly-third h true true false = (λ e. (refl, refl, refl), λ e. refl)
-  exactly-third h true false r = (λ e. absurd (omega arith), λ e. absurd (false≢true (e .1)))
-  exactly-third h false q r = (λ e. absurd (omega arith), λ e. absurd (false≢true (e .0)))
-
-  -- any other number is that answer's, where all tests hold
-  pub exactly-rest : (n : ℕ) → (a ≡ n → ⊥) → (b ≡ n → ⊥) → (c ≡ n → ⊥) → (p q r : Bool)
-      → momentRefusal (answerBy a b c rest p q r) ≡ n ↔ ((p ≡ true) × (q ≡ true) × (r ≡ true) × (momentRefusal rest ≡ n))
-  exactly-rest n x y z true true true = (λ e. (refl, refl, refl, e), λ e. e .3)
-  exactly-rest n x y z true true false = (λ e. absurd (z e), λ e. absurd (false≢true (e .2)))
-  exactly-rest n x y z true false r = (λ e. absurd (y e), λ e. absurd (false≢true (e .1)))
-  exactly-rest n x y z false q r = (λ e. absurd (x e), λ e. absurd (false≢true (e .0)))
+-- the number it gives
+pub answer-number : (a b c : ℕ) (rest : MomentAnswer) (p q r : Bool)
+    → momentRefusal (answerBy a b c rest p q r) ≡ cond p (cond q (cond r (momentRefusal rest) c) b) a
+answer-number a b c rest true true true = refl
+answer-number a b c rest true true false = refl
+answer-number a b c rest true false r = refl
+answer-number a b c rest false q r = refl
 
 module _ (s : Session) (names : List ℕ) (k : ℕ) where
   -- a naming by its three tests
@@ -75,9 +54,9 @@ module _ (s : Session) (names : List ℕ) (k : ℕ) where
       let q : Bool = sound s in
       let r : Bool = lies (length names) k in
       record {
-        two = rw (name-answer p q r) (exactly-first 2 7 6 (omega arith) (omega arith) Done (λ e. omega arith) p q r);
-        seven = rw (name-answer p q r) (exactly-second 2 7 6 (omega arith) (omega arith) Done (λ e. omega arith) p q r);
-        six = rw (name-answer p q r) (exactly-third 2 7 6 (omega arith) (omega arith) Done (λ e. omega arith) p q r);
+        two = rw (name-answer p q r, answer-number 2 7 6 Done p q r) (exactly-first 2 7 6 (λ e. omega arith) (λ e. omega arith) (λ e. omega arith) 0 (λ e. omega arith) p q r);
+        seven = rw (name-answer p q r, answer-number 2 7 6 Done p q r) (exactly-second 2 7 6 (λ e. omega arith) (λ e. omega arith) (λ e. omega arith) 0 (λ e. omega arith) p q r);
+        six = rw (name-answer p q r, answer-number 2 7 6 Done p q r) (exactly-third 2 7 6 (λ e. omega arith) (λ e. omega arith) (λ e. omega arith) 0 (λ e. omega arith) p q r);
         kept = name-kept p q r;
       }
 
@@ -110,11 +89,11 @@ module _ (s : Session) (names : List ℕ) (k : ℕ) where
       let p : Bool = isName k in
       let q : Bool = isSet names k in
       let r : Bool = sound (sessionUnder names k) in
-      let third = exactly-third 2 11 7 (omega arith) (omega arith) Done (λ e. omega arith) p q r in
+      let third = exactly-third 2 11 7 (λ e. omega arith) (λ e. omega arith) (λ e. omega arith) 0 (λ e. omega arith) p q r in
       record {
-        two = rw (return-answer p q r) (exactly-first 2 11 7 (omega arith) (omega arith) Done (λ e. omega arith) p q r);
-        eleven = rw (return-answer p q r) (exactly-second 2 11 7 (omega arith) (omega arith) Done (λ e. omega arith) p q r);
-        seven = rw (return-answer p q r) (λ e. let h = third .0 e in (h .1, h .2), λ e. third .1 (set-name names k (e .0), e .0, e .1));
+        two = rw (return-answer p q r, answer-number 2 11 7 Done p q r) (exactly-first 2 11 7 (λ e. omega arith) (λ e. omega arith) (λ e. omega arith) 0 (λ e. omega arith) p q r);
+        eleven = rw (return-answer p q r, answer-number 2 11 7 Done p q r) (exactly-second 2 11 7 (λ e. omega arith) (λ e. omega arith) (λ e. omega arith) 0 (λ e. omega arith) p q r);
+        seven = rw (return-answer p q r, answer-number 2 11 7 Done p q r) (λ e. let h = third .0 e in (h .1, h .2), λ e. third .1 (set-name names k (e .0), e .0, e .1));
         kept = by (returnedBy p q r .answer) refl;
       }
     where

@@ -8,6 +8,7 @@ use mathlib.Core.List.{List}
 use lib.Dec.{leb}
 use lib.ListN.{length}
 use borrow.Author.Tests.{lt-leb, leb-false}
+use Rattle.reuse.proofs.Tests.{exactly-first, exactly-second, exactly-third, exactly-rest}
 use Rattle.reuse_rows.specs.Rows.{putAt}
 use Rattle.session.specs.Sessions.{sound}
 use Rattle.session_layout.specs.Layout.{sessionLength, sessionIn, sessionLaid}
@@ -16,7 +17,7 @@ use Rattle.moments.specs.declared.MomentAnswer.the-variants.{Done, Refused}
 use Rattle.moments.specs.Names.{isName, lies, isSet, sessionUnder, Named, notNamed, nameCall}
 use Rattle.moments.specs.Refusals.{momentRefusal}
 use Rattle.moments.proofs.Places.{set-name}
-use Rattle.moments.proofs.Refusals.{answerBy, exactly-first, exactly-second, exactly-third, exactly-rest, namedBy}
+use Rattle.moments.proofs.Refusals.{answerBy, answer-number, namedBy}
 use Rattle.moments_words.specs.Calls.{Came, notCame, nameIn, returnIn}
 use Rattle.moments_words.specs.Refusals.{NamingInWords, ReturnInWords}
 
@@ -64,9 +65,9 @@ module _ (w names : List ℕ) (k : ℕ) where
       let q : Bool = sound (sessionIn w) in
       let r : Bool = lies (length names) k in
       record {
-        two = rw (name-answer p e q r) (exactly-first 2 7 6 (omega arith) (omega arith) Done (λ n. omega arith) p (e && q) r);
-        seven = rw (name-answer p e q r) (exactly-second 2 7 6 (omega arith) (omega arith) Done (λ n. omega arith) p (e && q) r);
-        six = rw (name-answer p e q r) (exactly-third 2 7 6 (omega arith) (omega arith) Done (λ n. omega arith) p (e && q) r);
+        two = rw (name-answer p e q r, answer-number 2 7 6 Done p (e && q) r) (exactly-first 2 7 6 (λ e. omega arith) (λ e. omega arith) (λ e. omega arith) 0 (λ n. omega arith) p (e && q) r);
+        seven = rw (name-answer p e q r, answer-number 2 7 6 Done p (e && q) r) (exactly-second 2 7 6 (λ e. omega arith) (λ e. omega arith) (λ e. omega arith) 0 (λ n. omega arith) p (e && q) r);
+        six = rw (name-answer p e q r, answer-number 2 7 6 Done p (e && q) r) (exactly-third 2 7 6 (λ e. omega arith) (λ e. omega arith) (λ e. omega arith) 0 (λ n. omega arith) p (e && q) r);
         kept = name-kept p e q r;
       }
 
@@ -103,13 +104,13 @@ module _ (w names : List ℕ) (k : ℕ) where
       let q : Bool = isSet names k in
       let r : Bool = sound (sessionUnder names k) in
       let e : Bool = leb sessionLength (length w) in
-      let seven = exactly-third 2 11 7 (omega arith) (omega arith) (roomed e) (roomed-other e 7 (λ n. omega arith) (λ n. omega arith)) p q r in
-      let six = exactly-rest 2 11 7 (omega arith) (omega arith) (roomed e) 6 (λ n. omega arith) (λ n. omega arith) (λ n. omega arith) p q r in
+      let seven = exactly-third 2 11 7 (λ e. omega arith) (λ e. omega arith) (λ e. omega arith) (momentRefusal (roomed e)) (roomed-other e 7 (λ n. omega arith) (λ n. omega arith)) p q r in
+      let six = exactly-rest 2 11 7 (λ e. omega arith) (λ e. omega arith) (λ e. omega arith) (momentRefusal (roomed e)) 6 (λ n. omega arith) (λ n. omega arith) (λ n. omega arith) p q r in
       record {
-        two = rw (back-answer p q r e) (exactly-first 2 11 7 (omega arith) (omega arith) (roomed e) (roomed-other e 2 (λ n. omega arith) (λ n. omega arith)) p q r);
-        eleven = rw (back-answer p q r e) (exactly-second 2 11 7 (omega arith) (omega arith) (roomed e) (roomed-other e 11 (λ n. omega arith) (λ n. omega arith)) p q r);
-        seven = rw (back-answer p q r e) (λ n. let h = seven .0 n in (h .1, h .2), λ h. seven .1 (set-name names k (h .0), h .0, h .1));
-        six = rw (back-answer p q r e) (
+        two = rw (back-answer p q r e, answer-number 2 11 7 (roomed e) p q r) (exactly-first 2 11 7 (λ e. omega arith) (λ e. omega arith) (λ e. omega arith) (momentRefusal (roomed e)) (roomed-other e 2 (λ n. omega arith) (λ n. omega arith)) p q r);
+        eleven = rw (back-answer p q r e, answer-number 2 11 7 (roomed e) p q r) (exactly-second 2 11 7 (λ e. omega arith) (λ e. omega arith) (λ e. omega arith) (momentRefusal (roomed e)) (roomed-other e 11 (λ n. omega arith) (λ n. omega arith)) p q r);
+        seven = rw (back-answer p q r e, answer-number 2 11 7 (roomed e) p q r) (λ n. let h = seven .0 n in (h .1, h .2), λ h. seven .1 (set-name names k (h .0), h .0, h .1));
+        six = rw (back-answer p q r e, answer-number 2 11 7 (roomed e) p q r) (
           λ n. let h = six .0 n in (h .1, h .2, leb-false sessionLength (length w) (roomed-six e .0 (h .3))),
           λ h. six .1 (set-name names k (h .0), h .0, h .1, roomed-six e .1 (lt-leb sessionLength (length w) (h .2))),
         );

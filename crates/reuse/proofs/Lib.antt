@@ -18,3 +18,4 @@ pub mod Servable
 pub mod Traces
 pub mod Examples
 pub mod Signed
+pub mod Tests
