@@ -30,8 +30,7 @@ fn long_trace() -> (Vec<u32>, Vec<u32>) {
 
 /// The trace with its last read of an extent that it does not have.
 fn with_another(trace: &[u32]) -> Vec<u32> {
-    let another = (0..).find(|extent| !trace.contains(extent)).expect("another extent");
-    [&trace[..trace.len() - 1], &[another]].concat()
+    [&trace[..trace.len() - 1], &[made::another(trace)]].concat()
 }
 
 #[test]
@@ -237,9 +236,8 @@ fn a_session_of_the_second_half_of_all_reads() {
     let (front, back) = reads.split_at(MOST / 2);
     // the words at which the first half has ended
     let mut reader = compare_reads(&mut tally, &session::of(front), back);
-    let another = (0..).find(|extent| !reads.contains(extent)).expect("another extent");
     reader.assert_full(reads[0]);
-    reader.assert_full(another);
+    reader.assert_full(made::another(&reads));
     let summary = calls::session_summary(reader.session.cells(), MOST_WORDS);
     tally.same(summary, Ok(summary::of(&reads)), &MOST);
     tally.at_least(MAX_READS / 2 + 1);
