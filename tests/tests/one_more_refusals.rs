@@ -116,8 +116,9 @@ fn all_extents_and_one_more() {
             tally.same(calls::one_more(log, place, known, size), with_known, &(count, place, known));
             tally.same(calls::one_more(log, place, new, size), with_new, &(count, place, new));
         }
+        tally.same(calls::one_more(log, count + 1, new, size), Err(refusal::NUMBER), &(count, new));
     }
-    tally.at_least(2 * (1024 + 1025 + 1026));
+    tally.at_least(2 * (1024 + 1025 + 1026) + 3);
 }
 
 #[test]
