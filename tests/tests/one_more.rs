@@ -88,8 +88,8 @@ fn both_ends_of_the_range_at_every_size() {
         let most = Ok(i64::from(size) + 1);
         tally.same(calls::one_more(&twice, size as usize, size + 1, size), most, &size);
         tally.same(calls::one_more(&twice, size as usize, size + 1, size + 1), Ok(1), &size);
-        // the first extent has just left where it is read again, but not where it was read in between; at size 1 these two
-        // reads stand side by side
+        // the first extent has just left where it is read again, but not where it was read in between; at size 1 these
+        // two reads stand side by side
         let round: Vec<u32> = (1..=size + 1).chain([1]).collect();
         let fewest = if size == 1 { Ok(0) } else { Ok(-1) };
         tally.same(calls::one_more(&round, 2, 1, size), fewest, &size);
