@@ -82,6 +82,16 @@ pub fn split(store: u32, leasts: &[u32], summaries: &[u32], room: usize) -> Answ
     written(count, &shares).and_then(|shares| answer.map(|misses| Split { misses: misses as u64, shares }))
 }
 
+/// What one more read does to the misses at a size.
+#[track_caller]
+pub fn one_more(log: &[u32], place: usize, extent: u32, size: u32) -> Answer<i64> {
+    let (log, mut change) = (Lent::holding(log), Lent::room(1));
+    let answer = ffi::one_more(log.cells(), place, extent, size, &mut change.cells_mut()[0]);
+    log.assert_kept();
+    assert_eq!(answer.unwrap_or(0), 0, "the answer of a call that is done");
+    written(answer.map(|_| 1), &change).map(|cells| cells[0])
+}
+
 /// A plan carried out, in so many work words and a buffer of `room` words.
 #[track_caller]
 pub fn plan(text: &[u8], log: &[u32], work: usize, room: usize) -> Answer<Carried> {

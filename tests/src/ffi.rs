@@ -32,6 +32,14 @@ mod raw {
             shares: *mut u32,
             shares_len: usize,
         ) -> i64;
+        pub fn jemqolu_one_more(
+            log: *const u32,
+            log_len: usize,
+            place: usize,
+            extent: u32,
+            size: u32,
+            change: *mut i64,
+        ) -> i64;
         pub fn jemqolu_plan(
             text: *const u8,
             text_len: usize,
@@ -121,6 +129,11 @@ pub fn split(store: u32, leasts: &[u32], summaries: &[u32], shares: &mut [u32]) 
             shares.len(),
         )
     })
+}
+
+/// What a read of `extent` put in before the one at `place` does to the misses of a cache of `size` extents; 0.
+pub fn one_more(log: &[u32], place: usize, extent: u32, size: u32, change: &mut i64) -> Answer<usize> {
+    answer(unsafe { raw::jemqolu_one_more(log.as_ptr(), log.len(), place, extent, size, change) })
 }
 
 /// The summary of `log` by a joining plan; the words written.

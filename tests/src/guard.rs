@@ -24,6 +24,12 @@ impl Cell for u8 {
     }
 }
 
+impl Cell for i64 {
+    fn filler(place: usize) -> Self {
+        (place as i64).wrapping_mul(-0x61C8_8646_80B5_83EC) | 1
+    }
+}
+
 impl Cell for f64 {
     fn filler(place: usize) -> Self {
         place as f64 + 2.25

@@ -91,6 +91,21 @@ pub fn trace(random: &mut Random, most_reads: usize, most_extents: usize) -> Vec
     trace_over(random, &extents, reads)
 }
 
+/// A trace of so many reads that has all of these extents at its front or at its end, and else reads the first few.
+pub fn trace_of_all(random: &mut Random, extents: &[u32], few: usize, reads: usize) -> Vec<u32> {
+    let others = trace_over(random, &extents[..few], reads - extents.len());
+    if random.one_in(2) {
+        [extents, &others].concat()
+    } else {
+        [&others, extents].concat()
+    }
+}
+
+/// The smallest extent that a trace does not have.
+pub fn another(trace: &[u32]) -> u32 {
+    (0..).find(|extent| !trace.contains(extent)).expect("another extent")
+}
+
 /// Numbers whose sum is `total`.
 fn split(random: &mut Random, total: usize, count: usize) -> Vec<u32> {
     let mut left = total;

@@ -35,3 +35,11 @@ pub fn lists(start: usize, extents: usize) -> [Range<usize>; 4] {
     let list = |place: usize| start + 2 + place * extents..start + 2 + (place + 1) * extents;
     [start..start + 2, list(0), list(1), list(2)]
 }
+
+/// Sizes to try for a log of so many extents: all that matter, and large ones.
+pub fn sizes(extents: u32) -> Vec<u32> {
+    let last = MAX_EXTENTS as u32;
+    let v = extents.min(last + 44);
+    let near: Vec<u32> = if v <= 40 { (0..=v + 2).collect() } else { vec![0, 1, 2, v / 2, v - 1, v, v + 1] };
+    [near, vec![last - 1, last, last + 1, 65_536, 1 << 31, u32::MAX - 1, u32::MAX]].concat()
+}

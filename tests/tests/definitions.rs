@@ -5,7 +5,7 @@ use jemqolu_tests::plain::names::{self, MAX_NAMES};
 use jemqolu_tests::plain::session::{Reading, SLOTS};
 use jemqolu_tests::plain::splits::{self, Customer};
 use jemqolu_tests::plain::trace::{self, Stack};
-use jemqolu_tests::plain::{cache, last_slots, logs, plans, session, split_tables, summary, MAX_EXTENTS};
+use jemqolu_tests::plain::{cache, last_slots, logs, one_more, plans, session, split_tables, summary, MAX_EXTENTS};
 use jemqolu_tests::random::Random;
 use jemqolu_tests::tally::Tally;
 use jemqolu_tests::{made, runs};
@@ -58,6 +58,23 @@ fn a_distance_is_the_smallest_cache_that_hits() {
         }
     }
     tally.at_least(5000);
+}
+
+#[test]
+fn a_change_by_caches_is_the_one_by_distances() {
+    let mut tally = Tally::new("one more read by caches and by distances");
+    let mut random = Random::new(10);
+    for log in traces() {
+        let (place, known) = (random.below(log.len() + 1), random.of(log.get(..3).unwrap_or(&THREE)));
+        for (extent, size) in
+            [known, made::another(&log)].into_iter().flat_map(|extent| (0..9).map(move |size| (extent, size)))
+        {
+            let misses = |log: &[u32]| trace::distances(log).iter().filter(|word| !trace::is_hit(**word, size)).count();
+            let change = misses(&one_more::put_in(&log, place, extent)) as i64 - misses(&log) as i64;
+            tally.same(one_more::one_more(&log, place, extent, size), Ok(change), &(&log, place, extent, size));
+        }
+    }
+    tally.at_least(1200 * 18);
 }
 
 #[test]

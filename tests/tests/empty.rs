@@ -48,6 +48,17 @@ fn a_slice_of_no_words_may_have_any_pointer() {
 }
 
 #[test]
+fn a_log_of_no_reads_may_have_any_pointer() {
+    let mut change = 79;
+    for place in [1, 2, usize::MAX] {
+        assert_eq!(ffi::one_more(&[], place, 5, 3, &mut change), Err(refusal::NUMBER));
+    }
+    assert_eq!(change, 79);
+    assert_eq!(ffi::one_more(&[], 0, 5, 3, &mut change), Ok(0));
+    assert_eq!(change, 1);
+}
+
+#[test]
 fn a_slice_of_no_bytes_may_have_any_pointer() {
     let mut out = [9; 3];
     assert_eq!(ffi::plan(&[], &[], &mut [], &mut []), Err(refusal::LINE));

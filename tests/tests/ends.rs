@@ -3,7 +3,7 @@
 use jemqolu_tests::plain::plans::{self, Plan, LEVEL_WORDS};
 use jemqolu_tests::plain::session::{self, WORDS};
 use jemqolu_tests::plain::summary::{self, MOST_WORDS};
-use jemqolu_tests::plain::{logs, splits, trace, watch, COLD_BASE};
+use jemqolu_tests::plain::{logs, one_more, splits, trace, watch, COLD_BASE};
 use jemqolu_tests::random::Random;
 use jemqolu_tests::tally::Tally;
 use jemqolu_tests::{ffi, made, Answer};
@@ -76,6 +76,23 @@ fn traces() {
         tally.same(got, Ok(distances[..len].to_vec()), &len);
     }
     tally.at_least(300);
+}
+
+#[test]
+fn logs_with_one_more_read() {
+    let mut tally = Tally::new("logs that end early, with one more read");
+    let whole = [7, 3, 7, 9, 3, 3, 9, 5, 7, 3];
+    for len in 0..=whole.len() {
+        let puts = (0..=whole.len() + 2).flat_map(|place| [7, 3, 9, 5, 4].map(|extent| (place, extent)));
+        for ((place, extent), size) in puts.flat_map(|put| [0, 1, 2, 3, 9].map(|size| (put, size))) {
+            let mut change = 55;
+            let answer = ffi::one_more(&whole[..len], place, extent, size, &mut change);
+            let wanted = one_more::one_more(&whole[..len], place, extent, size);
+            let left = wanted.unwrap_or(55);
+            tally.same((answer, change), (wanted.map(|_| 0), left), &(len, place, extent, size));
+        }
+    }
+    tally.at_least(11 * 13 * 5 * 5);
 }
 
 #[test]

@@ -14,7 +14,7 @@ fn with_comma(number: usize) -> String {
 }
 
 /// The declarations as they stand in the header, line ends and indents aside.
-const CALLS: [&str; 20] = [
+const CALLS: [&str; 21] = [
     "jemqolu_summarize(const uint32_t *reads, size_t reads_len, uint32_t *out, size_t out_len)",
     "jemqolu_join(const uint32_t *a, size_t a_len, const uint32_t *b, size_t b_len, uint32_t *out, size_t out_len)",
     "jemqolu_distances(const uint32_t *prefix, size_t prefix_len, const uint32_t *reads, size_t reads_len, \
@@ -23,6 +23,8 @@ const CALLS: [&str; 20] = [
     "jemqolu_share(const uint32_t *words, size_t words_len, uint32_t size, double *share)",
     "jemqolu_split(uint32_t store, const uint32_t *leasts, size_t leasts_len, \
      const uint32_t *summaries, size_t summaries_len, uint32_t *shares, size_t shares_len)",
+    "jemqolu_one_more(const uint32_t *log, size_t log_len, size_t place, uint32_t extent, uint32_t size, \
+     int64_t *change)",
     "jemqolu_plan(const uint8_t *text, size_t text_len, const uint32_t *log, size_t log_len, \
      uint32_t *work, size_t work_len, uint32_t *out, size_t out_len)",
     "jemqolu_list(const uint8_t *text, size_t text_len, uint8_t *out, size_t out_len)",
@@ -45,9 +47,9 @@ const CALLS: [&str; 20] = [
 
 #[test]
 fn the_header_declares_these_calls_and_no_others() {
-    let header = HEADER.split_whitespace().collect::<Vec<&str>>().join(" ");
-    let declared: Vec<&str> = header.split("int64_t ").skip(1).map(|rest| &rest[..rest.find(';').unwrap()]).collect();
-    assert_eq!(declared, CALLS);
+    let one_line = |text: &str| text.split_whitespace().collect::<Vec<&str>>().join(" ");
+    let declared = HEADER.split("\nint64_t ").skip(1).map(|rest| one_line(&rest[..rest.find(';').unwrap()]));
+    assert_eq!(declared.collect::<Vec<String>>(), CALLS);
 }
 
 #[test]

@@ -2,6 +2,7 @@
 
 use jemqolu_tests::guard::Lent;
 use jemqolu_tests::plain::logs::{self, LISTING_BYTES};
+use jemqolu_tests::plain::one_more::put_in;
 use jemqolu_tests::plain::plans::{Carried, Plan, LEVEL_WORDS};
 use jemqolu_tests::plain::session::{self, Reading, NEXT, WORDS};
 use jemqolu_tests::plain::splits::{Split, MAX_CUSTOMERS, MAX_STORE};
@@ -30,8 +31,7 @@ fn long_trace() -> (Vec<u32>, Vec<u32>) {
 
 /// The trace with its last read of an extent that it does not have.
 fn with_another(trace: &[u32]) -> Vec<u32> {
-    let another = (0..).find(|extent| !trace.contains(extent)).expect("another extent");
-    [&trace[..trace.len() - 1], &[another]].concat()
+    [&trace[..trace.len() - 1], &[made::another(trace)]].concat()
 }
 
 #[test]
@@ -69,6 +69,30 @@ fn splits() {
         tally.same(calls::split(0, &leasts, &summaries, MAX_CUSTOMERS), Ok(none), &0);
     }
     tally.at_least(14);
+}
+
+#[test]
+fn one_more_read() {
+    let mut tally = Tally::new("one more read in long traces");
+    let (trace, distances) = long_trace();
+    let log = &trace[..MOST - 1];
+    let without = summary::with_distances(log, &distances[..MOST - 1]);
+    for (place, extent) in [(0, trace[MOST]), (400_000, trace[5]), (MOST - 1, trace[0])] {
+        let with = summary::of(&put_in(log, place, extent));
+        for size in [0, 3, 12, 700, u32::MAX] {
+            let [with, without] = [&with, &without].map(|words| summary::misses(words, size));
+            let change = with.and_then(|with| without.map(|without| with as i64 - without as i64));
+            tally.same(calls::one_more(log, place, extent, size), change, &(place, extent, size));
+        }
+    }
+    let (another, longer) = (made::another(&trace), &trace[..MOST]);
+    for (place, extent) in [(0, trace[0]), (MOST / 2, another), (MOST, trace[0])] {
+        tally.same(calls::one_more(longer, place, extent, 9), Err(refusal::READS), &(place, extent));
+        tally.same(calls::one_more(&with_another(longer), place, extent, 9), Err(refusal::READS), &(place, extent));
+    }
+    tally.same(calls::one_more(log, MOST / 2, another, 9), Err(refusal::EXTENTS), &MOST);
+    tally.same(calls::one_more(&with_another(log), MOST / 2, trace[0], 9), Err(refusal::EXTENTS), &MOST);
+    tally.at_least(3 * 5 + 3 * 2 + 2);
 }
 
 #[test]
@@ -237,9 +261,8 @@ fn a_session_of_the_second_half_of_all_reads() {
     let (front, back) = reads.split_at(MOST / 2);
     // the words at which the first half has ended
     let mut reader = compare_reads(&mut tally, &session::of(front), back);
-    let another = (0..).find(|extent| !reads.contains(extent)).expect("another extent");
     reader.assert_full(reads[0]);
-    reader.assert_full(another);
+    reader.assert_full(made::another(&reads));
     let summary = calls::session_summary(reader.session.cells(), MOST_WORDS);
     tally.same(summary, Ok(summary::of(&reads)), &MOST);
     tally.at_least(MAX_READS / 2 + 1);

@@ -3,16 +3,11 @@
 use jemqolu_tests::plain::{cache, hit_share, summary, MAX_EXTENTS, MAX_READS};
 use jemqolu_tests::random::Random;
 use jemqolu_tests::tally::Tally;
-use jemqolu_tests::{calls, made, Answer};
+use jemqolu_tests::{calls, made, spread, Answer};
 
-/// The largest distance.
-const LAST: u32 = MAX_EXTENTS as u32;
-
-/// Sizes to try for a summary: all that matter, and large ones.
+/// Sizes to try for a summary.
 fn sizes(words: &[u32]) -> Vec<u32> {
-    let v = words.get(1).copied().unwrap_or(0).min(LAST + 44);
-    let near: Vec<u32> = if v <= 40 { (0..=v + 2).collect() } else { vec![0, 1, 2, v / 2, v - 1, v, v + 1] };
-    [near, vec![LAST - 1, LAST, LAST + 1, 65_536, 1 << 31, u32::MAX - 1, u32::MAX]].concat()
+    spread::sizes(words.get(1).copied().unwrap_or(0))
 }
 
 /// A share as its bits, so that two that compare equal are the same number.

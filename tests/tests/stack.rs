@@ -90,6 +90,21 @@ fn splits() {
 }
 
 #[test]
+fn one_more_read() {
+    let (trace, mut change) = (long_trace(), 0);
+    let (log, new) = (&trace[1..], MAX_EXTENTS as u32);
+    for (place, size) in [(0, 9), (log.len() / 2, MAX_EXTENTS as u32), (log.len(), u32::MAX)] {
+        assert_eq!(with_little_stack("one_more", || ffi::one_more(log, place, trace[0], size, &mut change)), Ok(0));
+    }
+    let mut refused = |log: &[u32], place: usize, extent: u32| {
+        with_little_stack("one_more", || ffi::one_more(log, place, extent, 9, &mut change))
+    };
+    assert_eq!(refused(log, log.len() + 1, new), Err(refusal::NUMBER));
+    assert_eq!(refused(&trace, log.len(), new), Err(refusal::READS));
+    assert_eq!(refused(log, log.len(), new), Err(refusal::EXTENTS));
+}
+
+#[test]
 fn texts() {
     let trace = long_trace();
     let (mut work, mut out, mut listing) = (vec![1; LEVEL_WORDS * MAX_DEPTH], [0; MOST_WORDS], [0; LISTING_BYTES]);
@@ -135,9 +150,10 @@ fn watches() {
 }
 
 /// All calls, with the test that makes them.
-const CALLS: [(&str, &[&str]); 6] = [
+const CALLS: [(&str, &[&str]); 7] = [
     ("summaries", &["summarize", "join", "distances", "misses", "share"]),
     ("splits", &["split"]),
+    ("one_more_read", &["one_more"]),
     ("texts", &["plan", "list"]),
     ("sessions", &["session_new", "session_read", "session_summary", "session_misses", "session_share"]),
     ("moments", &["names_new", "session_name", "session_return"]),

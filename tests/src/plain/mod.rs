@@ -5,6 +5,7 @@ pub mod last_slots;
 pub mod logs;
 pub mod moments;
 pub mod names;
+pub mod one_more;
 pub mod plans;
 pub mod session;
 pub mod split_tables;
