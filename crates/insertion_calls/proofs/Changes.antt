@@ -7,30 +7,29 @@ use Prim.Native.Nat.{ℕ, suc, _+_, _≤_, _<_}
 use native.Mathlib.Omega.{arith}
 use mathlib.Core.List.{List, [], _∷_, append-assoc}
 use lib.IntN.{pos, _-ℤ_, +ℤ-invr}
-use lib.Signed.{mag, _≤ℤ_}
+use lib.Signed.{_≤ℤ_}
 use lib.ListN.{length, take, drop, getD}
 use lib.Seq.{take-suc, drop-cons}
 use borrow.Author.Tests.{eqb-true, le-leb, lt-leb}
 use Rattle.reuse.specs.Lists.{mem, remove, before, distinct}
 use Rattle.reuse.specs.Lru.{depth, touch, stack}
 use Rattle.reuse.specs.Cache.{cacheMisses}
-use Rattle.reuse.specs.Summary.{summaryOf, missesOf}
 use Rattle.reuse.proofs.Lists.{by-test, eqb-same, mem-remove, remove-absent}
 use Rattle.reuse.proofs.Distinct.{distinct-head}
 use Rattle.reuse.proofs.Depth.{depth-present, depth-absent}
 use Rattle.reuse.proofs.Stack.{distinct-stack}
-use Rattle.reuse.proofs.Misses.{cache-misses, summary-misses}
+use Rattle.reuse.proofs.Misses.{cache-misses}
 use Rattle.insertion_calls.specs.Insertion.{put, changeOf, Bounded}
 use Rattle.insertion_calls.specs.Misses.{missOf, missesFrom, missesWith}
-use Rattle.insertion_calls.proofs.Steps.{misses-step, miss-one, misses-most, misses-zero, misses-cut, misses-put}
+use Rattle.insertion_calls.proofs.Steps.{misses-step, miss-one, misses-zero, misses-cut, misses-put}
 use Rattle.insertion_calls.proofs.Moved.{moved-least, moved-most}
-use Rattle.insertion_calls.proofs.Integers.{gap-is, gap-same, gap-least, gap-most, gap-fits, gap-from-zero}
+use Rattle.insertion_calls.proofs.Integers.{gap-is, gap-same, gap-least, gap-most, gap-from-zero}
 use Rattle.insertion_calls.proofs.Puts.{length-put}
 
 -- a read of x put in at a place of a trace, which may be of any length; a place past its end is its end
 module _ (c p x : ℕ) (t : List ℕ) where
   -- it spares at most one miss
-  pub put-least : missesFrom c [] t ≤ missesFrom c [] (put p x t) + 1
+  put-least : missesFrom c [] t ≤ missesFrom c [] (put p x t) + 1
   unfolding missesWith touch
   put-least =
       omega (
@@ -41,7 +40,7 @@ module _ (c p x : ℕ) (t : List ℕ) where
       )
 
   -- it adds at most as many as the size, and its own
-  pub put-most : missesFrom c [] (put p x t) ≤ missesFrom c [] t + (c + 1)
+  put-most : missesFrom c [] (put p x t) ≤ missesFrom c [] t + (c + 1)
   unfolding missesWith touch distinct
   put-most =
       omega (
@@ -66,15 +65,6 @@ module _ (c p x : ℕ) (t : List ℕ) where
   unfolding changeOf
   change-cache = rw (cache-misses c (put p x t), cache-misses c t)
 
-  -- the cache's misses change by −1 to c + 1
-  pub cache-bounded : Bounded c (pos (cacheMisses c (put p x t)) -ℤ pos (cacheMisses c t))
-  cache-bounded = rw change-cache at change-bounded
-
-  -- by the two summaries
-  pub change-summary : changeOf c p x t ≡ pos (missesOf (summaryOf (put p x t)) c) -ℤ pos (missesOf (summaryOf t) c)
-  unfolding changeOf
-  change-summary = rw (summary-misses c (put p x t), summary-misses c t)
-
   -- the change from the stack after the reads before the place: the misses of x and then the rest, less those of the rest alone
   pub change-rest : let s : List ℕ = stack (take p t) in
       changeOf c p x t ≡ pos (missesWith c s x (drop p t)) -ℤ pos (missesFrom c s (drop p t))
@@ -83,13 +73,6 @@ module _ (c p x : ℕ) (t : List ℕ) where
       let s : List ℕ = stack (take p t) in
       ap₂ (λ (a b : ℕ). pos a -ℤ pos b) (misses-put c p t x) (misses-cut c p t)
       ∙ gap-same (missesFrom c [] (take p t)) (missesWith c s x (drop p t)) (missesFrom c s (drop p t))
-
-  -- the change is in the signed range of 2 n numbers where the longer trace has fewer than n reads
-  pub change-fits : (n : ℕ) → suc (length t) < n → mag (changeOf c p x t) < n
-  unfolding changeOf missesFrom
-  change-fits n h =
-      gap-fits (missesFrom c [] (put p x t)) (missesFrom c [] t) n
-      (omega (arith, misses-most c [] (put p x t), length-put p x t)) (omega (arith, misses-most c [] t))
 
   -- a read that misses itself spares none
   miss-spares-none : missOf c (stack (take p t)) x ≡ 1 → pos 0 ≤ℤ changeOf c p x t
