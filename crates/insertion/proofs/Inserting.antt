@@ -1,29 +1,24 @@
 -- The four passes of the call on one more read: the reads before the place, the read put in, the rest after it, and the rest without it.
 use mathlib.Core.Path.{_≡_, refl, sym, ap, ap₂, _∙_}
-use Prim.Native.Nat.{ℕ, suc, _+_, _-_, _≤_, _<_, _^_, min}
+use Prim.Native.Nat.{ℕ, suc, _+_, _-_, _≤_, _<_, min}
 use native.Mathlib.Omega.{arith}
 use native.Mathlib.Nat.{add-zero}
 use mathlib.Core.List.{List, [], _∷_, foldl, foldl-append}
 use lib.IntN.{pos, _-ℤ_}
 use lib.ListN.{length, take, drop, length-drop, take-append-drop}
 use lib.Seq.{take-all, length-take-le}
-use mir.Syntax.{w64}
-use mir.Val.{SFits, toZ, ofZ}
-use mir.ValLaws.{toZ-ofZ}
 use Rattle.reuse.specs.Limits.{maxReads, maxExtents}
 use Rattle.reuse.specs.Lists.{firsts, distinct}
 use Rattle.reuse.specs.Lru.{touch, stack}
 use Rattle.reuse.specs.Traces.{Within}
-use Rattle.reuse.proofs.Signed.{read-pos}
 use Rattle.reuse.proofs.Stack.{length-stack, distinct-stack, distinct-touch}
 use Rattle.reuse.proofs.Newcomers.{stack-grows}
 use Rattle.insertion_calls.specs.Insertion.{put, changeOf}
 use Rattle.insertion_calls.specs.Misses.{missOf, missesFrom, missesWith}
 use Rattle.insertion_calls.specs.Calls.{insertionCall}
 use Rattle.insertion_calls.specs.declared.InsertionAnswer.the-variants.{Change, Refused}
-use Rattle.insertion_calls.proofs.Integers.{gap-fits}
 use Rattle.insertion_calls.proofs.Puts.{length-put, within-put}
-use Rattle.insertion_calls.proofs.Steps.{misses-none, misses-step, miss-one, misses-most}
+use Rattle.insertion_calls.proofs.Steps.{misses-none, misses-step}
 use Rattle.insertion_calls.proofs.Changes.{change-rest}
 use Rattle.insertion_calls.proofs.Calls.{call-extents, call-change}
 use Rattle.insertion.specs.Passes.{Ready, MissesCounted}
@@ -33,8 +28,8 @@ pub ready-blank : (row reads : List ℕ) → length row ≡ maxExtents → lengt
 unfolding distinct
 ready-blank row reads w s = record { wide = w; held = omega arith; once = refl; short = s }
 
--- a trace and a place in it, with room for one more read
-module _ (t : List ℕ) (p : ℕ) (placed : p ≤ length t) (short : length t < maxReads) where
+-- a trace and a place in it
+module _ (t : List ℕ) (p : ℕ) (placed : p ≤ length t) (short : length t ≤ maxReads) where
   -- the stack at the place
   abbrev here : List ℕ
   here = stack (take p t)
@@ -88,8 +83,8 @@ module _ (t : List ℕ) (p : ℕ) (placed : p ≤ length t) (short : length t < 
     pub plain-ready : Ready row held rest
     plain-ready = ready-here rest rest-short
 
-  -- a read put in
-  module _ (x c : ℕ) where
+  -- a read put in, where there is room for one more
+  module _ (x c : ℕ) (room : length t < maxReads) where
     -- the extents of the longer trace
     longer : length (firsts (put p x t)) ≡ length (foldl touch (touch here x) (drop p t))
     unfolding put stack
@@ -105,7 +100,7 @@ module _ (t : List ℕ) (p : ℕ) (placed : p ≤ length t) (short : length t < 
 
     -- a trace whose longer one has too many extents
     over : maxExtents < length (firsts (put p x t)) → Refused 9 ≡ insertionCall t p x c
-    over m = sym (call-extents t p x c placed short m)
+    over m = sym (call-extents t p x c placed room m)
 
     -- after the reads before the place
     module _ (blank row : List ℕ) (held misses : ℕ) (first : MissesCounted blank 0 (take (p - 0) t) c row held misses) where
@@ -183,29 +178,8 @@ module _ (t : List ℕ) (p : ℕ) (placed : p ≤ length t) (short : length t < 
                 without-missed : without ≡ missesFrom c here (drop p t)
                 without-missed = fourth .missed plain-few ∙ rw (stands, rest-all)
 
-                -- no more than the reads
-                pub with-fits : misses′ + with < 2 ^ 32
-                unfolding missesWith
-                with-fits =
-                    omega (arith, with-missed, miss-one c here x, misses-most c (touch here x) (drop p t), length-drop p t)
-
-                without-fits : without < 2 ^ 32
-                without-fits = omega (arith, without-missed, misses-most c here (drop p t), length-drop p t)
-
-                -- the two as signed numbers
-                signed : toZ w64 (misses′ + with) -ℤ toZ w64 without ≡ pos (misses′ + with) -ℤ pos without
-                signed = rw (read-pos (misses′ + with) (omega (arith, with-fits)), read-pos without (omega (arith, without-fits)))
-
-                -- their difference is a signed number too
-                pub change-fits : SFits w64 (toZ w64 (misses′ + with) -ℤ toZ w64 without)
-                change-fits =
-                    rw signed (record { sfits = gap-fits (misses′ + with) without (2 ^ 63) (omega (arith, with-fits)) (omega (arith, without-fits)) })
-
-                -- and is the change
-                pub change-told : Change (toZ w64 (ofZ w64 (toZ w64 (misses′ + with) -ℤ toZ w64 without))) ≡ insertionCall t p x c
+                -- their difference is the change
+                pub change-told : Change (pos (misses′ + with) -ℤ pos without) ≡ insertionCall t p x c
                 change-told =
-                    ap Change
-                    (toZ-ofZ w64 (toZ w64 (misses′ + with) -ℤ toZ w64 without) change-fits
-                    ∙ signed
-                    ∙ rw (with-missed, without-missed) (sym (change-rest c p x t)))
+                    ap Change (rw (with-missed, without-missed) (sym (change-rest c p x t)))
                     ∙ sym (call-change t p x c placed longer-within)

@@ -33,5 +33,5 @@ pub fn one_more(trace: &[u32], place: usize, extent: u32, size: u32) -> Insertio
         return InsertionAnswer::Refused(9);
     }
     let without = passes::count_misses(&mut plain, before.held, &trace[place..reads], size);
-    InsertionAnswer::Change((put.misses + with.misses) as i64 - without.misses as i64)
+    InsertionAnswer::Change(passes::difference(put.misses, with.misses, without.misses))
 }

@@ -1,5 +1,8 @@
 // A pass over reads that counts the misses of a cache.
 use reuse_engine::Place;
+ghost use mathlib.Core.Path.{_≡_};
+ghost use Prim.Native.Nat.{_+_};
+ghost use lib.IntN.{pos, _-ℤ_};
 ghost use Rattle.insertion.specs.Passes.{Ready, MissesCounted};
 
 // The extents held after a pass, or one more than the limit, and the misses on the way.
@@ -48,4 +51,11 @@ pub fn count_misses(stack: &mut [u32], n: usize, reads: &[u32], size: u32) -> Co
         held: held,
         misses: misses,
     }
+}
+
+// The misses of a read put in and of the rest after it, less those of the rest without it.
+pub fn difference(put: u32, with: u32, without: u32) -> i64
+    ensures { λ r. ⌜ r ≡ pos (put + with) -ℤ pos without ⌝ }
+{
+    (put as u64 + with as u64) as i64 - without as i64
 }

@@ -28,6 +28,11 @@ use Rattle.insertion_calls.proofs.Puts.{length-put}
 
 -- a read of x put in at a place of a trace, which may be of any length; a place past its end is its end
 module _ (c p x : ℕ) (t : List ℕ) where
+  -- the change is that of the misses of the cache itself
+  pub change-cache : changeOf c p x t ≡ pos (cacheMisses c (put p x t)) -ℤ pos (cacheMisses c t)
+  unfolding changeOf
+  change-cache = rw (cache-misses c (put p x t), cache-misses c t)
+
   -- it spares at most one miss
   put-least : missesFrom c [] t ≤ missesFrom c [] (put p x t) + 1
   unfolding missesWith touch
@@ -59,11 +64,6 @@ module _ (c p x : ℕ) (t : List ℕ) where
         least = gap-least (missesFrom c [] (put p x t)) (missesFrom c [] t) put-least;
         most = gap-most (missesFrom c [] (put p x t)) (missesFrom c [] t) (c + 1) put-most;
       }
-
-  -- the same change, by the misses of the cache itself
-  pub change-cache : changeOf c p x t ≡ pos (cacheMisses c (put p x t)) -ℤ pos (cacheMisses c t)
-  unfolding changeOf
-  change-cache = rw (cache-misses c (put p x t), cache-misses c t)
 
   -- the change from the stack after the reads before the place: the misses of x and then the rest, less those of the rest alone
   pub change-rest : let s : List ℕ = stack (take p t) in

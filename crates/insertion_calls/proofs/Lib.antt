@@ -1,4 +1,3 @@
-pub mod Examples
 pub mod Steps
 pub mod Moved
 pub mod Integers
@@ -8,3 +7,4 @@ pub mod Ends
 pub mod Calls
 pub mod Refusals
 pub mod Reached
+pub mod Examples

@@ -1,26 +1,28 @@
 -- `insertion::one_more` meets its contract.
-use mathlib.Core.Path.{sym}
+use mathlib.Core.Path.{sym, ap, _∙_}
 use Prim.Native.Nat.{ℕ}
 use native.Mathlib.Omega.{arith}
 use lib.ListN.{length-replicate}
+use mir.Syntax.{w64}
+use mir.ValLaws.{toZ-ofZ}
 use Rattle.reuse.specs.Limits.{maxExtents}
+use Rattle.insertion_calls.specs.declared.InsertionAnswer.the-variants.{Change}
 use Rattle.insertion_calls.proofs.Calls.{call-past, call-reads}
-use Rattle.insertion.proofs.Inserting.{front-ready, first-over, put-ready, second-over, moved-ready, third-over, plain-ready, with-fits, change-fits, change-told}
+use Rattle.insertion.proofs.Inserting.{front-ready, first-over, put-ready, second-over, moved-ready, third-over, plain-ready, change-told}
 use borrow.Author.Needs.{needs}
 use Rattle.insertion.proofs.one_more.Statement.{statement}
 use Rattle.insertion.proofs.one_more.Tie as tie
-use Rattle.insertion.proofs.one_more.Reads as reads
-use Rattle.insertion.proofs.one_more.Lts as lts
-use Rattle.insertion.proofs.passes.count_misses.Reads as count-misses-reads
 
 returns : tie.Need-returns
-returns c = sym (call-past _ _ _ _ (c .if1 .taken))
+returns c =
+    sym (call-past _ _ _ _ (c .if1 .taken))
 
 cast-if2 : tie.Need-cast-if2
 cast-if2 c = search needs
 
 returns-2 : tie.Need-returns-2
-returns-2 c = sym (call-reads _ _ _ _ (c .before .if1 .left) (c .if2 .taken))
+returns-2 c =
+    sym (call-reads (c .before .before .before .args .trace .now) _ _ _ (c .before .if1 .left) (omega (arith, c .if2 .taken)))
 
 slice-aggregate-count-misses : tie.Need-slice-aggregate-count-misses
 slice-aggregate-count-misses c = search needs
@@ -35,10 +37,12 @@ part-count-misses-end : tie.Need-part-count-misses-end
 part-count-misses-end c = search needs
 
 count-misses-requires : tie.Need-count-misses-requires
-count-misses-requires c κs = front-ready _ _ (c .before .before .before .if1 .left) (c .before .before .if2 .left) _ (length-replicate {A = ℕ} maxExtents 0)
+count-misses-requires c κs =
+    front-ready (c .before .before .before .before .before .args .trace .now) _ (c .before .before .before .if1 .left) (omega (arith, c .before .before .if2 .left)) _ (length-replicate {A = ℕ} maxExtents 0)
 
 returns-3 : tie.Need-returns-3
-returns-3 c = first-over _ _ (c .before .before .before .before .before .before .before .if1 .left) (c .before .before .before .before .before .before .if2 .left) _ _ _ _ _ _ (c .before .before .before .count-misses .ensures) (c .if3 .taken)
+returns-3 c =
+    first-over (c .before .before .before .before .before .before .before .before .before .args .trace .now) _ (c .before .before .before .before .before .before .before .if1 .left) (omega (arith, c .before .before .before .before .before .before .if2 .left)) _ _ (c .before .before .before .before .before .before .if2 .left) _ _ _ _ (c .before .before .before .count-misses .ensures) (c .if3 .taken)
 
 slice-aggregate-count-misses-2 : tie.Need-slice-aggregate-count-misses-2
 slice-aggregate-count-misses-2 c = search needs
@@ -47,10 +51,12 @@ slice-aggregate-count-misses-3 : tie.Need-slice-aggregate-count-misses-3
 slice-aggregate-count-misses-3 c = search needs
 
 count-misses-requires-2 : tie.Need-count-misses-requires-2
-count-misses-requires-2 c κs = put-ready _ _ (c .before .before .before .before .before .before .before .before .before .if1 .left) (c .before .before .before .before .before .before .before .before .if2 .left) _ _ _ _ _ (c .before .before .before .before .before .count-misses .ensures) (c .before .before .if3 .left) _
+count-misses-requires-2 c κs =
+    put-ready (c .before .before .before .before .before .before .before .before .before .before .before .args .trace .now) _ (c .before .before .before .before .before .before .before .before .before .if1 .left) (omega (arith, c .before .before .before .before .before .before .before .before .if2 .left)) _ _ _ _ _ (c .before .before .before .before .before .count-misses .ensures) (c .before .before .if3 .left) _
 
 returns-4 : tie.Need-returns-4
-returns-4 c = second-over _ _ (c .before .before .before .before .before .before .before .before .before .before .before .before .before .if1 .left) (c .before .before .before .before .before .before .before .before .before .before .before .before .if2 .left) _ _ _ _ _ _ (c .before .before .before .before .before .before .before .before .before .count-misses .ensures) (c .before .before .before .before .before .before .if3 .left) _ _ _ (c .before .before .before .count-misses2 .ensures) (c .if4 .taken)
+returns-4 c =
+    second-over (c .before .before .before .before .before .before .before .before .before .before .before .before .before .before .before .args .trace .now) _ (c .before .before .before .before .before .before .before .before .before .before .before .before .before .if1 .left) (omega (arith, c .before .before .before .before .before .before .before .before .before .before .before .before .if2 .left)) _ _ (c .before .before .before .before .before .before .before .before .before .before .before .before .if2 .left) _ _ _ _ (c .before .before .before .before .before .before .before .before .before .count-misses .ensures) (c .before .before .before .before .before .before .if3 .left) _ _ _ (c .before .before .before .count-misses2 .ensures) (c .if4 .taken)
 
 slice-aggregate-count-misses-4 : tie.Need-slice-aggregate-count-misses-4
 slice-aggregate-count-misses-4 c = search needs
@@ -65,10 +71,12 @@ part-count-misses-end-2 : tie.Need-part-count-misses-end-2
 part-count-misses-end-2 c = search needs
 
 count-misses-requires-3 : tie.Need-count-misses-requires-3
-count-misses-requires-3 c κs = moved-ready _ _ (c .before .before .before .before .before .before .before .before .before .before .before .before .before .before .before .if1 .left) (c .before .before .before .before .before .before .before .before .before .before .before .before .before .before .if2 .left) _ _ _ _ _ _ (c .before .before .before .before .before .before .before .before .before .before .before .count-misses .ensures) (c .before .before .before .before .before .before .before .before .if3 .left) _ _ _ (c .before .before .before .before .before .count-misses2 .ensures) (c .before .before .if4 .left)
+count-misses-requires-3 c κs =
+    moved-ready (c .before .before .before .before .before .before .before .before .before .before .before .before .before .before .before .before .before .args .trace .now) _ (c .before .before .before .before .before .before .before .before .before .before .before .before .before .before .before .if1 .left) (omega (arith, c .before .before .before .before .before .before .before .before .before .before .before .before .before .before .if2 .left)) _ _ (c .before .before .before .before .before .before .before .before .before .before .before .before .before .before .if2 .left) _ _ _ _ (c .before .before .before .before .before .before .before .before .before .before .before .count-misses .ensures) (c .before .before .before .before .before .before .before .before .if3 .left) _ _ _ (c .before .before .before .before .before .count-misses2 .ensures) (c .before .before .if4 .left)
 
 returns-5 : tie.Need-returns-5
-returns-5 c = third-over _ _ (c .before .before .before .before .before .before .before .before .before .before .before .before .before .before .before .before .before .before .before .if1 .left) (c .before .before .before .before .before .before .before .before .before .before .before .before .before .before .before .before .before .before .if2 .left) _ _ _ _ _ _ (c .before .before .before .before .before .before .before .before .before .before .before .before .before .before .before .count-misses .ensures) (c .before .before .before .before .before .before .before .before .before .before .before .before .if3 .left) _ _ _ (c .before .before .before .before .before .before .before .before .before .count-misses2 .ensures) (c .before .before .before .before .before .before .if4 .left) _ _ _ (c .before .before .before .count-misses3 .ensures) (c .if5 .taken)
+returns-5 c =
+    third-over (c .before .before .before .before .before .before .before .before .before .before .before .before .before .before .before .before .before .before .before .before .before .args .trace .now) _ (c .before .before .before .before .before .before .before .before .before .before .before .before .before .before .before .before .before .before .before .if1 .left) (omega (arith, c .before .before .before .before .before .before .before .before .before .before .before .before .before .before .before .before .before .before .if2 .left)) _ _ (c .before .before .before .before .before .before .before .before .before .before .before .before .before .before .before .before .before .before .if2 .left) _ _ _ _ (c .before .before .before .before .before .before .before .before .before .before .before .before .before .before .before .count-misses .ensures) (c .before .before .before .before .before .before .before .before .before .before .before .before .if3 .left) _ _ _ (c .before .before .before .before .before .before .before .before .before .count-misses2 .ensures) (c .before .before .before .before .before .before .if4 .left) _ _ _ (c .before .before .before .count-misses3 .ensures) (c .if5 .taken)
 
 slice-aggregate-count-misses-5 : tie.Need-slice-aggregate-count-misses-5
 slice-aggregate-count-misses-5 c = search needs
@@ -83,22 +91,16 @@ part-count-misses-end-3 : tie.Need-part-count-misses-end-3
 part-count-misses-end-3 c = search needs
 
 count-misses-requires-4 : tie.Need-count-misses-requires-4
-count-misses-requires-4 c κs = plain-ready _ _ (c .before .before .before .before .before .before .before .before .before .before .before .before .before .before .before .before .before .before .before .before .before .if1 .left) (c .before .before .before .before .before .before .before .before .before .before .before .before .before .before .before .before .before .before .before .before .if2 .left) _ _ _ _ _ (c .before .before .before .before .before .before .before .before .before .before .before .before .before .before .before .before .before .count-misses .ensures) (c .before .before .before .before .before .before .before .before .before .before .before .before .before .before .if3 .left)
+count-misses-requires-4 c κs =
+    plain-ready (c .before .before .before .before .before .before .before .before .before .before .before .before .before .before .before .before .before .before .before .before .before .before .before .args .trace .now) _ (c .before .before .before .before .before .before .before .before .before .before .before .before .before .before .before .before .before .before .before .before .before .if1 .left) (omega (arith, c .before .before .before .before .before .before .before .before .before .before .before .before .before .before .before .before .before .before .before .before .if2 .left)) _ _ _ _ _ (c .before .before .before .before .before .before .before .before .before .before .before .before .before .before .before .before .before .count-misses .ensures) (c .before .before .before .before .before .before .before .before .before .before .before .before .before .before .if3 .left)
 
-add-t36 : tie.Need-add-t36
-add-t36 c = record { fits = with-fits _ _ (c .before .before .before .before .before .before .before .before .before .before .before .before .before .before .before .before .before .before .before .before .before .before .before .before .before .if1 .left) (c .before .before .before .before .before .before .before .before .before .before .before .before .before .before .before .before .before .before .before .before .before .before .before .before .if2 .left) _ _ _ _ _ _ (c .before .before .before .before .before .before .before .before .before .before .before .before .before .before .before .before .before .before .before .before .before .count-misses .ensures) (c .before .before .before .before .before .before .before .before .before .before .before .before .before .before .before .before .before .before .if3 .left) _ _ _ (c .before .before .before .before .before .before .before .before .before .before .before .before .before .before .before .count-misses2 .ensures) (c .before .before .before .before .before .before .before .before .before .before .before .before .if4 .left) _ _ _ (c .before .before .before .before .before .before .before .before .before .count-misses3 .ensures) (c .before .before .before .before .before .before .if5 .left) _ _ _ (c .before .before .before .count-misses4 .ensures) }
-
-cast-t37 : tie.Need-cast-t37
-cast-t37 c = search needs
-
-cast-t38 : tie.Need-cast-t38
-cast-t38 c = search needs
-
-sub-t39 : tie.Need-sub-t39
-sub-t39 c = change-fits _ _ (c .before .before .before .before .before .before .before .before .before .before .before .before .before .before .before .before .before .before .before .before .before .before .before .before .before .before .if1 .left) (c .before .before .before .before .before .before .before .before .before .before .before .before .before .before .before .before .before .before .before .before .before .before .before .before .before .if2 .left) _ _ _ _ _ _ (c .before .before .before .before .before .before .before .before .before .before .before .before .before .before .before .before .before .before .before .before .before .before .count-misses .ensures) (c .before .before .before .before .before .before .before .before .before .before .before .before .before .before .before .before .before .before .before .if3 .left) _ _ _ (c .before .before .before .before .before .before .before .before .before .before .before .before .before .before .before .before .count-misses2 .ensures) (c .before .before .before .before .before .before .before .before .before .before .before .before .before .if4 .left) _ _ _ (c .before .before .before .before .before .before .before .before .before .before .count-misses3 .ensures) (c .before .before .before .before .before .before .before .if5 .left) _ _ _ (c .before .before .before .before .count-misses4 .ensures)
+difference-requires : tie.Need-difference-requires
+difference-requires c κs = search needs
 
 returns-6 : tie.Need-returns-6
-returns-6 c = change-told _ _ (c .before .before .before .before .before .before .before .before .before .before .before .before .before .before .before .before .before .before .before .before .before .before .before .before .before .before .if1 .left) (c .before .before .before .before .before .before .before .before .before .before .before .before .before .before .before .before .before .before .before .before .before .before .before .before .before .if2 .left) _ _ _ _ _ _ (c .before .before .before .before .before .before .before .before .before .before .before .before .before .before .before .before .before .before .before .before .before .before .count-misses .ensures) (c .before .before .before .before .before .before .before .before .before .before .before .before .before .before .before .before .before .before .before .if3 .left) _ _ _ (c .before .before .before .before .before .before .before .before .before .before .before .before .before .before .before .before .count-misses2 .ensures) (c .before .before .before .before .before .before .before .before .before .before .before .before .before .if4 .left) _ _ _ (c .before .before .before .before .before .before .before .before .before .before .count-misses3 .ensures) (c .before .before .before .before .before .before .before .if5 .left) _ _ _ (c .before .before .before .before .count-misses4 .ensures)
+returns-6 c =
+    ap Change (toZ-ofZ w64 (c .difference .result) (record { sfits = c .difference .ok }) ∙ c .difference .ensures)
+    ∙ change-told (c .before .before .before .before .before .before .before .before .before .before .before .before .before .before .before .before .before .before .before .before .before .before .before .before .before .before .args .trace .now) _ (c .before .before .before .before .before .before .before .before .before .before .before .before .before .before .before .before .before .before .before .before .before .before .before .before .if1 .left) (omega (arith, c .before .before .before .before .before .before .before .before .before .before .before .before .before .before .before .before .before .before .before .before .before .before .before .if2 .left)) _ _ (c .before .before .before .before .before .before .before .before .before .before .before .before .before .before .before .before .before .before .before .before .before .before .before .if2 .left) _ _ _ _ (c .before .before .before .before .before .before .before .before .before .before .before .before .before .before .before .before .before .before .before .before .count-misses .ensures) (c .before .before .before .before .before .before .before .before .before .before .before .before .before .before .before .before .before .if3 .left) _ _ _ (c .before .before .before .before .before .before .before .before .before .before .before .before .before .before .count-misses2 .ensures) (c .before .before .before .before .before .before .before .before .before .before .before .if4 .left) _ _ _ (c .before .before .before .before .before .before .before .before .count-misses3 .ensures) (c .before .before .before .before .before .if5 .left) _ _ _ (c .before .before .count-misses4 .ensures)
 
 pub one-more-spec : {M : Type 1} → statement M
 one-more-spec =
@@ -128,8 +130,5 @@ one-more-spec =
     part-count-misses-start-3
     part-count-misses-end-3
     count-misses-requires-4
-    add-t36
-    cast-t37
-    cast-t38
-    sub-t39
+    difference-requires
     returns-6)
