@@ -36,11 +36,18 @@ static void splits(size_t extents, size_t count) {
     for (size_t i = 0; i < count; i++) split(1024, leasts, summaries, shares);
 }
 
+// The last of the extents put in at the front, in a cache of a quarter of them.
+static void one_more_of_kind(Kind kind, size_t extents, size_t reads) {
+    one_more(trace_of(kind, reads, extents, 1), 0, extents_of(extents, 1).back(), static_cast<uint32_t>(extents / 4));
+}
+
 void lone_work(const std::string &kind, size_t extents, size_t units) {
     if (kind == "summary-skewed") return summary_of_kind(Kind::skewed, extents, units);
     if (kind == "summary-uniform") return summary_of_kind(Kind::uniform, extents, units);
     if (kind == "distances-skewed") return distances_of_kind(Kind::skewed, extents, units);
     if (kind == "distances-uniform") return distances_of_kind(Kind::uniform, extents, units);
+    if (kind == "one-more-skewed") return one_more_of_kind(Kind::skewed, extents, units);
+    if (kind == "one-more-uniform") return one_more_of_kind(Kind::uniform, extents, units);
     if (kind == "session") return session_reads(extents, units);
     if (kind == "join") return joins(extents, units);
     if (kind == "split-8") return splits(extents, units);

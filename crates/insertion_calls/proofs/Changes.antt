@@ -1,7 +1,7 @@
 -- What one more read does to the misses of a trace.
 use mathlib.Core.Path.{_≡_, refl, ap, ap₂, _∙_}
 use mathlib.Core.Logic.{_⊎_, inl, inr, ⊎-elim}
-use mathlib.Core.Bool.{true, false}
+use mathlib.Core.Bool.{true, false, cond}
 use lib.Dec.{eqb}
 use Prim.Native.Nat.{ℕ, suc, _+_, _≤_, _<_}
 use native.Mathlib.Omega.{arith}
@@ -11,20 +11,22 @@ use lib.Signed.{_≤ℤ_}
 use lib.ListN.{length, take, drop, getD}
 use lib.Seq.{take-suc, drop-cons}
 use borrow.Author.Tests.{eqb-true, le-leb, lt-leb}
-use Rattle.reuse.specs.Lists.{mem, remove, before, distinct}
-use Rattle.reuse.specs.Lru.{depth, touch, stack}
-use Rattle.reuse.specs.Cache.{cacheMisses}
+use Rattle.reuse.specs.Lists.{mem, remove, before, distinct, firsts}
+use Rattle.reuse.specs.Lru.{depth, touch, stack, reuses, missesAt}
+use Rattle.reuse.specs.Cache.{cacheMisses, servable}
 use Rattle.reuse.proofs.Lists.{by-test, eqb-same, mem-remove, remove-absent}
 use Rattle.reuse.proofs.Distinct.{distinct-head}
 use Rattle.reuse.proofs.Depth.{depth-present, depth-absent}
-use Rattle.reuse.proofs.Stack.{distinct-stack}
-use Rattle.reuse.proofs.Misses.{cache-misses}
+use Rattle.reuse.proofs.Stack.{distinct-stack, length-reuses}
+use Rattle.reuse.proofs.Misses.{cache-misses, cache-hits, within-misses}
+use Rattle.reuse.proofs.Newcomers.{cold-count}
+use Rattle.reuse.proofs.Servable.{cache-all}
 use Rattle.insertion_calls.specs.Insertion.{put, changeOf, Bounded}
 use Rattle.insertion_calls.specs.Misses.{missOf, missesFrom, missesWith}
 use Rattle.insertion_calls.proofs.Steps.{misses-step, miss-one, misses-zero, misses-cut, misses-put}
 use Rattle.insertion_calls.proofs.Moved.{moved-least, moved-most}
 use Rattle.insertion_calls.proofs.Integers.{gap-is, gap-same, gap-least, gap-most, gap-from-zero}
-use Rattle.insertion_calls.proofs.Puts.{length-put}
+use Rattle.insertion_calls.proofs.Puts.{length-put, extents-put}
 
 -- a read of x put in at a place of a trace, which may be of any length; a place past its end is its end
 module _ (c p x : ℕ) (t : List ℕ) where
@@ -107,6 +109,27 @@ pub change-zero : (p x : ℕ) (t : List ℕ) → changeOf 0 p x t ≡ pos 1
 unfolding changeOf missesFrom
 change-zero p x t =
     gap-is (missesFrom 0 [] (put p x t)) (missesFrom 0 [] t) 1 (omega (arith, misses-zero [] (put p x t), misses-zero [] t, length-put p x t))
+
+-- a cache with room for all extents has the cold reads as its misses, one for each extent
+misses-all : (c : ℕ) (t : List ℕ) → length (firsts t) ≤ c → missesFrom c [] t ≡ length (firsts t)
+unfolding missesFrom missesAt servable
+misses-all c t l =
+    omega (
+      arith,
+      within-misses c (reuses [] t),
+      length-reuses [] t,
+      cache-hits c t,
+      cache-all c t l,
+      cold-count t,
+    )
+
+-- so the change is 1 for an extent that the trace has not, else 0
+pub change-all : (c p x : ℕ) (t : List ℕ) → length (firsts (put p x t)) ≤ c → changeOf c p x t ≡ pos (cond (mem x t) 0 1)
+unfolding changeOf missesFrom
+change-all c p x t l =
+    let n : length (firsts (put p x t)) ≡ cond (mem x t) 0 1 + length (firsts t) = extents-put p x t in
+    gap-is (missesFrom c [] (put p x t)) (missesFrom c [] t) (cond (mem x t) 0 1)
+    (omega (arith, misses-all c (put p x t) l, misses-all c t (omega arith)))
 
 -- a read of the extent just read hits at every size from 1 up, and leaves the stack as it is
 read-again : (c : ℕ) (s : List ℕ) (x : ℕ) (t : List ℕ) → 1 ≤ c → missesFrom c (touch s x) (x ∷ t) ≡ missesFrom c (touch s x) t

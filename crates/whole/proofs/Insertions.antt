@@ -18,7 +18,7 @@ use Rattle.insertion_calls.specs.Calls.{insertionCall}
 use Rattle.insertion_calls.proofs.Puts.{within-put}
 use Rattle.insertion_calls.proofs.Calls.{call-change}
 use Rattle.insertion_calls.proofs.Refusals.{change-is}
-use Rattle.insertion_calls.proofs.Changes.{change-bounded, change-cache, change-zero, change-one, change-before, change-after}
+use Rattle.insertion_calls.proofs.Changes.{change-bounded, change-cache, change-zero, change-one, change-all, change-before, change-after}
 use Rattle.insertion_calls.proofs.Reached.{upper-reached, lower-reached, upper-called, lower-called}
 use Rattle.whole.specs.Runs.{sessionAfter}
 use Rattle.whole.specs.Insertions.{Insertions, EndsReached}
@@ -57,6 +57,7 @@ module _ (t : List ℕ) (place x c : ℕ) where
         ∙ ap₂ (λ (a b : ℕ). pos a -ℤ pos b) (told c (put place x t) w with e) (told c t (within-put place x t w) without f));
     nothing-held = λ z. rw z (change-zero place x t);
     nothing-spared = none-spared c place x t;
+    room-for-all = change-all c place x t;
     before-itself = change-before c place x t;
     after-itself = change-after c place x t;
   }

@@ -2,10 +2,12 @@
 use Prim.Native.Nat.{ℕ, suc, _+_, _≤_, _<_}
 use mathlib.Core.Path.{_≡_}
 use mathlib.Core.List.{List}
+use mathlib.Core.Bool.{cond}
 use lib.IntN.{ℤ, pos, negℤ, _-ℤ_}
 use lib.ListN.{length, getD}
 use lib.Signed.{_≤ℤ_}
 use Rattle.reuse.specs.Limits.{maxExtents}
+use Rattle.reuse.specs.Lists.{mem, firsts}
 use Rattle.reuse.specs.Cache.{cacheMisses}
 use Rattle.reuse.specs.Traces.{Within}
 use Rattle.summary_calls.specs.declared.MissCount.the-variants.{Misses}
@@ -33,6 +35,8 @@ pub record Insertions (t : List ℕ) (place x c : ℕ) : Type 0 where
   pub nothing-held : c ≡ 0 → changeOf c place x t ≡ pos 1
   -- below size 2 the lower end is not reached: no read spares a miss
   pub nothing-spared : c < 2 → pos 0 ≤ℤ changeOf c place x t
+  -- at a size with room for all extents it is 1 for an extent that the log has not, else 0
+  pub room-for-all : length (firsts (put place x t)) ≤ c → changeOf c place x t ≡ pos (cond (mem x t) 0 1)
   -- from size 1 up a read put in directly before a read of the same extent, or directly after it, changes nothing
   pub before-itself : place < length t → getD t place 0 ≡ x → 1 ≤ c → changeOf c place x t ≡ pos 0
   pub after-itself : place < length t → getD t place 0 ≡ x → 1 ≤ c → changeOf c (suc place) x t ≡ pos 0
