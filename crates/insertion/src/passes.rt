@@ -11,37 +11,37 @@ pub struct Count {
     pub misses: u32,
 }
 
-// The reads are taken after the stack in the first n words: a miss is a cold read, or one of a distance above the size.
+// The reads are taken after the stack in the first n words: the misses are the cold reads, by which the stack grows, plus
+// the reads of a distance above the size.
 pub fn count_misses(stack: &mut [u32], n: usize, reads: &[u32], size: u32) -> Count
     requires { ⌜ Ready (now stack) n (now reads) ⌝ }
     ensures { λ r. ⌜ MissesCounted (now (stack .entry)) n (now (reads .entry)) size (now (stack .exit)) (r .held) (r .misses) ⌝ }
 {
     let most = size as usize;
     let mut held = n;
-    let mut misses: u32 = 0;
+    let mut above: u32 = 0;
     let mut i: usize = 0;
     while i < reads.len() {
         let place = reuse_engine::touch(stack, held, reads[i]);
         match place {
             Place::Cold => {
                 held = held + 1;
-                misses = misses + 1;
             }
             Place::Depth(d) => {
                 if most < d {
-                    misses = misses + 1;
+                    above = above + 1;
                 }
             }
             Place::Full => {
                 return Count {
                     held: reuse::MAX_EXTENTS + 1,
-                    misses: misses,
+                    misses: above,
                 };
             }
             Place::BadCount => {
                 return Count {
                     held: held,
-                    misses: misses,
+                    misses: above,
                 };
             }
         }
@@ -49,7 +49,7 @@ pub fn count_misses(stack: &mut [u32], n: usize, reads: &[u32], size: u32) -> Co
     }
     Count {
         held: held,
-        misses: misses,
+        misses: (held - n) as u32 + above,
     }
 }
 

@@ -4,7 +4,7 @@ use lib.ListN.{length}
 use native.Mathlib.Omega.{arith}
 use mathlib.Core.Path.{sym, _∙_}
 use mathlib.Core.Logic.{⊎-elim}
-use Rattle.insertion.proofs.Counting.{Counting, count-start, count-cold, count-above, count-within, count-full, count-end, held-small, misses-fit, not-bad}
+use Rattle.insertion.proofs.Counting.{Counting, count-start, count-cold, count-above, count-within, count-full, count-end, held-small, misses-fit, above-fits, not-bad}
 use borrow.Author.Needs.{needs}
 use Rattle.insertion.proofs.passes.count_misses.Statement.{statement}
 use Rattle.insertion.proofs.passes.count_misses.Tie as tie
@@ -13,10 +13,10 @@ use Rattle.insertion.proofs.passes.count_misses.Lts as lts
 use Rattle.reuse_engine.proofs.touch.Reads as touch-reads
 
 abbrev Inv-loop : tie.InvT-loop
-Inv-loop stack₀ n reads size most held₀ misses₀ i₀ stack held misses i = Counting stack₀ n reads size stack held misses i
+Inv-loop stack₀ n reads size most held₀ above₀ i₀ stack held above i = Counting stack₀ n reads size stack held above i
 
 abbrev μ-loop : tie.MeasureT-loop
-μ-loop stack₀ n reads size most held₀ misses₀ i₀ stack held misses i = length reads - i
+μ-loop stack₀ n reads size most held₀ above₀ i₀ stack held above i = length reads - i
 
 loop-holds : tie.Need-loop-holds Inv-loop μ-loop
 loop-holds c = count-start _ _ _ _ (c .before .before .pre)
@@ -36,14 +36,11 @@ enum-told c = search needs
 add-held : tie.Need-add-held Inv-loop μ-loop
 add-held c = omega (arith, held-small _ _ _ _ _ _ _ _ (c .before .before .before .before .before .before .before .before .loop .inv))
 
-add-misses : tie.Need-add-misses Inv-loop μ-loop
-add-misses c = record { fits = misses-fit _ _ _ _ _ _ _ _ (c .before .before .before .before .before .before .before .before .loop .inv) (omega arith) }
-
 enum-known-place : tie.Need-enum-known-place Inv-loop μ-loop
 enum-known-place c = search needs
 
-add-misses-2 : tie.Need-add-misses-2 Inv-loop μ-loop
-add-misses-2 c = record { fits = misses-fit _ _ _ _ _ _ _ _ (c .before .before .before .before .before .before .before .before .before .before .loop .inv) (omega arith) }
+add-above : tie.Need-add-above Inv-loop μ-loop
+add-above c = record { fits = above-fits _ _ _ _ _ _ _ _ (c .before .before .before .before .before .before .before .before .before .before .loop .inv) (omega arith) }
 
 enum-told-2 : tie.Need-enum-told-2 Inv-loop μ-loop
 enum-told-2 c = search needs
@@ -85,6 +82,15 @@ loop-again c =
     (λ w. count-within _ _ _ _ _ _ _ _ h (omega arith) _ _ _ _ (t .0) (t .1) _ (w .1 .given .1) (w .3 .left) (w .4) (w .5)))
     (c .match .came)
 
+sub-t19 : tie.Need-sub-t19 Inv-loop μ-loop
+sub-t19 c = c .before .loop .inv .grown
+
+cast-t20 : tie.Need-cast-t20 Inv-loop μ-loop
+cast-t20 c = record { fits = omega (arith, held-small _ _ _ _ _ _ _ _ (c .before .loop .inv)) }
+
+add-t21 : tie.Need-add-t21 Inv-loop μ-loop
+add-t21 c = record { fits = misses-fit _ _ _ _ _ _ _ _ (c .before .loop .inv) }
+
 same-length-3 : tie.Need-same-length-3 Inv-loop μ-loop
 same-length-3 c = c .before .loop .inv .run .long
 
@@ -103,9 +109,8 @@ count-misses-spec =
     touch-requires
     enum-told
     add-held
-    add-misses
     enum-known-place
-    add-misses-2
+    add-above
     enum-told-2
     add-t18
     same-length
@@ -116,5 +121,8 @@ count-misses-spec =
     add-i
     loop-less
     loop-again
+    sub-t19
+    cast-t20
+    add-t21
     same-length-3
     returns-3)
