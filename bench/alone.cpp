@@ -36,9 +36,10 @@ static void splits(size_t extents, size_t count) {
     for (size_t i = 0; i < count; i++) split(1024, leasts, summaries, shares);
 }
 
-// The last of the extents put in at the front, in a cache of a quarter of them.
+// A stray extent put in at the front, in a cache of a quarter of the extents.
 static void one_more_of_kind(Kind kind, size_t extents, size_t reads) {
-    one_more(trace_of(kind, reads, extents, 1), 0, extents_of(extents, 1).back(), static_cast<uint32_t>(extents / 4));
+    uint32_t stray = static_cast<uint32_t>(4096 * (extents - 1));
+    one_more(trace_of(kind, reads, extents - 1, 1), 0, stray, static_cast<uint32_t>(extents / 4));
 }
 
 void lone_work(const std::string &kind, size_t extents, size_t units) {
