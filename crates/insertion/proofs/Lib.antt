@@ -1,2 +1,3 @@
-pub mod Counting
-pub mod Inserting
+pub mod Seeking
+pub mod Holding
+pub mod Following

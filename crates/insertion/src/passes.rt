@@ -1,25 +1,46 @@
-// A pass over reads that counts the misses of a cache.
+// Passes over the reads of a trace with one stack, and what they tell of the trace with a read put in.
 use reuse_engine::Place;
 ghost use mathlib.Core.Path.{_≡_};
-ghost use Prim.Native.Nat.{_+_};
-ghost use lib.IntN.{pos, _-ℤ_};
-ghost use Rattle.insertion.specs.Passes.{Ready, MissesCounted};
+ghost use lib.ListN.{length};
+ghost use Rattle.reuse.specs.Lists.{before};
+ghost use Rattle.insertion_calls.specs.Trails.{changeBy};
+ghost use Rattle.insertion.specs.Passes.{Ready, Held, Ahead, Small, Followed, withNewcomer, withKnown};
 
-// The extents held after a pass, or one more than the limit, and the misses on the way.
-pub struct Count {
-    pub held: usize,
-    pub misses: u32,
+// What tells the two traces apart after reads of other extents than the one put in: how many of these were read since the
+// place, at what depth the extent stands without the read put in, or would stand, and how many reads miss with it only.
+pub struct Marks {
+    pub since: usize,
+    pub depth: usize,
+    pub spoiled: u32,
 }
 
-// The reads are taken after the stack in the first n words: the misses are the cold reads, by which the stack grows, plus
-// the reads of a distance above the size.
-pub fn count_misses(stack: &mut [u32], n: usize, reads: &[u32], size: u32) -> Count
-    requires { ⌜ Ready (now stack) n (now reads) ⌝ }
-    ensures { λ r. ⌜ MissesCounted (now (stack .entry)) n (now (reads .entry)) size (now (stack .exit)) (r .held) (r .misses) ⌝ }
+// The extents held after a pass, or one more than the limit, how many reads it took, and the marks then.
+pub struct Traced {
+    pub held: usize,
+    pub taken: usize,
+    pub marks: Marks,
+}
+
+// How many words stand before the first one of the extent; all where there is none.
+pub fn ahead(row: &[u32], extent: u32) -> usize
+    ensures { λ r. ⌜ r ≡ length (before extent (now (row .entry))) ⌝ }
 {
-    let most = size as usize;
+    let mut i: usize = 0;
+    while i < row.len() {
+        if row[i] == extent {
+            return i;
+        }
+        i = i + 1;
+    }
+    i
+}
+
+// The reads are taken after the stack in the first n words: how many extents are held then, or one more than the limit.
+pub fn hold(stack: &mut [u32], n: usize, reads: &[u32]) -> usize
+    requires { ⌜ Ready (now stack) n (now reads) ⌝ }
+    ensures { λ r. ⌜ Held (now (stack .entry)) n (now (reads .entry)) (now (stack .exit)) r ⌝ }
+{
     let mut held = n;
-    let mut above: u32 = 0;
     let mut i: usize = 0;
     while i < reads.len() {
         let place = reuse_engine::touch(stack, held, reads[i]);
@@ -27,35 +48,99 @@ pub fn count_misses(stack: &mut [u32], n: usize, reads: &[u32], size: u32) -> Co
             Place::Cold => {
                 held = held + 1;
             }
-            Place::Depth(d) => {
-                if most < d {
-                    above = above + 1;
-                }
-            }
+            Place::Depth(_) => {}
             Place::Full => {
-                return Count {
-                    held: reuse::MAX_EXTENTS + 1,
-                    misses: above,
-                };
+                return reuse::MAX_EXTENTS + 1;
             }
             Place::BadCount => {
-                return Count {
-                    held: held,
-                    misses: above,
-                };
+                return held;
             }
         }
         i = i + 1;
     }
-    Count {
+    held
+}
+
+// The reads up to the next one of the extent are taken so, from the place on, and marked.
+pub fn follow(
+    stack: &mut [u32],
+    n: usize,
+    reads: &[u32],
+    extent: u32,
+    size: u32,
+    ahead: usize,
+) -> Traced
+    requires { ⌜ Ahead (now stack) n (now reads) extent ahead ⌝ }
+    ensures { λ r. ⌜ Followed (now (stack .entry)) n (now (reads .entry)) extent size (now (stack .exit)) r ⌝ }
+{
+    let mut held = n;
+    let mut marks = Marks {
+        since: 0,
+        depth: ahead + 1,
+        spoiled: 0,
+    };
+    let mut i: usize = 0;
+    while i < reads.len() {
+        if reads[i] == extent {
+            break;
+        }
+        let place = reuse_engine::touch(stack, held, reads[i]);
+        match place {
+            Place::Cold => {
+                held = held + 1;
+                marks = newcomer(marks);
+            }
+            Place::Depth(d) => {
+                marks = known(marks, d, size as usize);
+            }
+            Place::Full => {
+                held = reuse::MAX_EXTENTS + 1;
+                break;
+            }
+            Place::BadCount => {
+                break;
+            }
+        }
+        i = i + 1;
+    }
+    Traced {
         held: held,
-        misses: (held - n) as u32 + above,
+        taken: i,
+        marks: marks,
     }
 }
 
-// The misses of a read put in and of the rest after it, less those of the rest without it.
-pub fn difference(put: u32, with: u32, without: u32) -> i64
-    ensures { λ r. ⌜ r ≡ pos (put + with) -ℤ pos without ⌝ }
+// The marks after a read of an extent that was not read before: it misses both times.
+fn newcomer(m: Marks) -> Marks
+    requires { ⌜ Small m ⌝ }
+    ensures { λ r. ⌜ r ≡ withNewcomer m ⌝ }
 {
-    (put as u64 + with as u64) as i64 - without as i64
+    Marks {
+        since: m.since + 1,
+        depth: m.depth + 1,
+        spoiled: m.spoiled,
+    }
+}
+
+// The marks after a read at a depth: one of an extent that was not read since the place is one deeper with the read put in,
+// but where it stands below the extent put in.
+fn known(m: Marks, d: usize, size: usize) -> Marks
+    requires { ⌜ Small m ⌝ }
+    ensures { λ r. ⌜ r ≡ withKnown m d size ⌝ }
+{
+    if d <= m.since {
+        return m;
+    }
+    if m.depth < d {
+        return newcomer(m);
+    }
+    let mut spoiled = m.spoiled;
+    if d == size {
+        spoiled = spoiled + 1;
+    }
+    Marks {
+        since: m.since + 1,
+        depth: m.depth,
+        spoiled: spoiled,
+    }
 }

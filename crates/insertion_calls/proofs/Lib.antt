@@ -3,6 +3,8 @@ pub mod Moved
 pub mod Integers
 pub mod Puts
 pub mod Changes
+pub mod Trails
+pub mod Told
 pub mod Ends
 pub mod Calls
 pub mod Refusals

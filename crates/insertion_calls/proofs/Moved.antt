@@ -88,7 +88,7 @@ module _ (x : ℕ) (a b : List ℕ) where
           (remove-most x (before y b) (distinct-before y b d))
 
   -- what stands in a misses as often
-  moved-top : (c y : ℕ) → mem y a ≡ true → missOf c moved y ≡ missOf c plain y
+  pub moved-top : (c y : ℕ) → mem y a ≡ true → missOf c moved y ≡ missOf c plain y
   unfolding missOf
   moved-top c y m = rw (depth-top y a (x ∷ remove x b) m, depth-top y a b m)
 
@@ -104,17 +104,17 @@ module _ (x : ℕ) (a b : List ℕ) where
       (λ e. rw e (omega arith)))
 
   -- a read of x makes the two stacks one
-  touch-self : touch moved x ≡ touch plain x
+  pub touch-self : touch moved x ≡ touch plain x
   unfolding touch remove
   touch-self = simp (remove-append, eqb-same, remove-absent x (remove x b) (simp (mem-remove, eqb-same)))
 
   -- a read of another extent brings it to the top of a
-  touch-plain : (y : ℕ) → touch plain y ≡ touch a y ++ remove y b
+  pub touch-plain : (y : ℕ) → touch plain y ≡ touch a y ++ remove y b
   unfolding touch
   touch-plain y = simp remove-append
 
   -- in both
-  touch-moved : (y : ℕ) → eqb y x ≡ false → touch moved y ≡ touch a y ++ (x ∷ remove x (remove y b))
+  pub touch-moved : (y : ℕ) → eqb y x ≡ false → touch moved y ≡ touch a y ++ (x ∷ remove x (remove y b))
   unfolding touch remove
   touch-moved y o = simp (remove-append, o, remove-swap x y b)
 
