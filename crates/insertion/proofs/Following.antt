@@ -130,8 +130,8 @@ module _ (stack : List ℕ) (n : ℕ) (reads : List ℕ) (x c : ℕ) where
               let k : depth (foldl touch (take n stack) (take i reads)) (getD reads i 0) ≡ at d =
               rw (h .run .front) at (place-depth row held (getD reads i 0) (held-fits stack n reads row held i (h .run)) d (sym p ∙ e)) in
               let made : (w : Marks) → withKnown m d c ≡ w
-                      → Trail (take n stack) x c (take i reads ++ (getD reads i 0 ∷ [])) (w .since) (w .depth) (w .spoiled)
-                      → Following stack n reads x c left held' m' (i + 1) =
+              → Trail (take n stack) x c (take i reads ++ (getD reads i 0 ∷ [])) (w .since) (w .depth) (w .spoiled)
+              → Following stack n reads x c left held' m' (i + 1) =
               λ w v b. rw (f, g ∙ v) (record {
                 given = h .given;
                 run = turn-known stack n reads row held i (h .run) l r left p q d e;

@@ -1,3 +1,4 @@
 pub mod Seeking
 pub mod Holding
 pub mod Following
+pub mod Inserting

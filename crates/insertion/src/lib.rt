@@ -14,5 +14,32 @@ pub fn one_more(trace: &[u32], place: usize, extent: u32, size: u32) -> Insertio
     if reads < place {
         return InsertionAnswer::Refused(2);
     }
-    InsertionAnswer::Refused(8)
+    if (reuse::MAX_READS as usize) <= reads {
+        return InsertionAnswer::Refused(8);
+    }
+    let mut stack = [0u32; reuse::MAX_EXTENTS];
+    let before = passes::hold(&mut stack, 0, &trace[0..place]);
+    if reuse::MAX_EXTENTS < before {
+        return InsertionAnswer::Refused(9);
+    }
+    let ahead = passes::ahead(&stack[0..before], extent);
+    let traced = passes::follow(
+        &mut stack,
+        before,
+        &trace[place..reads],
+        extent,
+        size,
+        ahead,
+    );
+    if reuse::MAX_EXTENTS < traced.held {
+        return InsertionAnswer::Refused(9);
+    }
+    let next = place + traced.taken;
+    let held = passes::hold(&mut stack, traced.held, &trace[next..reads]);
+    let known = ahead < before;
+    let again = next < reads;
+    if reuse::MAX_EXTENTS < passes::extents_with(held, known, again) {
+        return InsertionAnswer::Refused(9);
+    }
+    InsertionAnswer::Change(passes::change(known, again, ahead + 1, traced.marks, size as usize))
 }

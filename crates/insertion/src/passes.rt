@@ -1,9 +1,12 @@
 // Passes over the reads of a trace with one stack, and what they tell of the trace with a read put in.
 use reuse_engine::Place;
 ghost use mathlib.Core.Path.{_≡_};
+ghost use mathlib.Core.Bool.{true, cond, _||_};
+ghost use Prim.Native.Nat.{suc, _+_, _≤_};
 ghost use lib.ListN.{length};
+ghost use Rattle.reuse.specs.Limits.{maxExtents};
 ghost use Rattle.reuse.specs.Lists.{before};
-ghost use Rattle.insertion_calls.specs.Trails.{changeBy};
+ghost use Rattle.insertion_calls.specs.Trails.{missAt, changeBy};
 ghost use Rattle.insertion.specs.Passes.{Ready, Held, Ahead, Small, Followed, withNewcomer, withKnown};
 
 // What tells the two traces apart after reads of other extents than the one put in: how many of these were read since the
@@ -143,4 +146,54 @@ fn known(m: Marks, d: usize, size: usize) -> Marks
         depth: m.depth,
         spoiled: spoiled,
     }
+}
+
+// A miss of a read of an extent at a depth, or of one that was not read before: 1, else 0.
+fn missed(known: bool, depth: usize, size: usize) -> u64
+    ensures { λ r. ⌜ r ≡ missAt known depth size ⌝ }
+{
+    if !known {
+        return 1;
+    }
+    if depth <= size {
+        return 0;
+    }
+    1
+}
+
+// A miss of the next read of the extent put in, with that read: as many extents were read since.
+fn missed_again(since: usize, size: usize) -> u64
+    ensures { λ r. ⌜ r ≡ missAt true (suc since) size ⌝ }
+{
+    if since < size {
+        return 0;
+    }
+    1
+}
+
+// The change: a miss of the read put in, whose extent stood at the depth `own` if it was known, and the reads spoiled; where
+// the extent is read again, the misses of that read with the read put in less those without it.
+pub fn change(known: bool, again: bool, own: usize, marks: Marks, size: usize) -> i64
+    ensures { λ r. ⌜ r ≡ changeBy known again own (marks .since) (marks .depth) (marks .spoiled) size ⌝ }
+{
+    let with = missed(known, own, size) + marks.spoiled as u64;
+    if !again {
+        return with as i64;
+    }
+    let then = with + missed_again(marks.since, size);
+    then as i64 - missed(known, marks.depth, size) as i64
+}
+
+// The extents of the trace with the read put in, of those of the trace without it: one more where its extent is new.
+pub fn extents_with(held: usize, known: bool, again: bool) -> usize
+    requires { ⌜ held ≤ suc maxExtents ⌝ }
+    ensures { λ r. ⌜ r ≡ cond (known || again) 0 1 + held ⌝ }
+{
+    if known {
+        return held;
+    }
+    if again {
+        return held;
+    }
+    held + 1
 }

@@ -14,7 +14,7 @@ use Rattle.reuse.proofs.Sizes.{same-size}
 use Rattle.insertion_calls.specs.Insertion.{put}
 
 -- the members of a trace are those of its two parts, wherever it is cut
-mem-cut : (z k : ℕ) (t : List ℕ) → (mem z (take k t) || mem z (drop k t)) ≡ mem z t
+pub mem-cut : (z k : ℕ) (t : List ℕ) → (mem z (take k t) || mem z (drop k t)) ≡ mem z t
 mem-cut z k t = sym (mem-append z (take k t) (drop k t)) ∙ ap (mem z) (take-append-drop k t)
 
 -- a read of x put in at a place

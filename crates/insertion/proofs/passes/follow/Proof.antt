@@ -69,7 +69,7 @@ loop-less : tie.Need-loop-less Inv-loop μ-loop
 loop-less c = omega arith
 
 loop-again : tie.Need-loop-again Inv-loop μ-loop
-loop-again c = 
+loop-again c =
     let h = c .before .before .before .before .before .before .before .before .before .loop .inv in
     let t = c .before .before .before .touch .ensures in
     let o = c .before .before .before .before .before .before .if1 .left in
@@ -94,7 +94,7 @@ same-length-3 : tie.Need-same-length-3 Inv-loop μ-loop
 same-length-3 c = c .before .before .before .before .touch .kept .0 ∙ c .before .before .before .before .before .before .before .before .before .before .loop .inv .run .long
 
 returns-3 : tie.Need-returns-3 Inv-loop μ-loop
-returns-3 c = 
+returns-3 c =
     let t = c .before .before .before .before .touch .ensures in
     follow-full _ _ _ _ _ _ _ _ _ (c .before .before .before .before .before .before .before .before .before .before .loop .inv) (omega arith) _ _ (t .0) (t .1) (c .enum-told2 .given .1)
 
@@ -102,7 +102,7 @@ same-length-4 : tie.Need-same-length-4 Inv-loop μ-loop
 same-length-4 c = c .before .before .before .before .touch .kept .0 ∙ c .before .before .before .before .before .before .before .before .before .before .loop .inv .run .long
 
 returns-4 : tie.Need-returns-4 Inv-loop μ-loop
-returns-4 c = 
+returns-4 c =
     absurd (run-bad _ _ _ _ _ _ (c .before .before .before .before .before .before .before .before .before .before .loop .inv .run) (omega arith) (sym (c .before .before .before .before .touch .ensures .0) ∙ c .enum-told3 .given .1))
 
 pub follow-spec : {M : Type 1} → statement M

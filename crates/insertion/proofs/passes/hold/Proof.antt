@@ -18,7 +18,7 @@ abbrev μ-loop : tie.MeasureT-loop
 μ-loop stack₀ n reads held₀ i₀ stack held i = length reads - i
 
 loop-holds : tie.Need-loop-holds Inv-loop μ-loop
-loop-holds c = 
+loop-holds c =
     let g = c .before .before .pre in
     (g, run-start _ _ _ (g .held) (g .once))
 
@@ -50,7 +50,7 @@ same-length : tie.Need-same-length Inv-loop μ-loop
 same-length c = c .before .before .before .before .touch .kept .0 ∙ c .before .before .before .before .before .before .before .before .loop .inv .1 .long
 
 returns : tie.Need-returns Inv-loop μ-loop
-returns c = 
+returns c =
     let h = c .before .before .before .before .before .before .before .before .loop .inv in
     let t = c .before .before .before .before .touch .ensures in
     hold-full _ _ _ _ _ _ (h .0) (h .1) (omega arith) _ _ (t .0) (t .1) (c .enum-told3 .given .1)
@@ -71,13 +71,15 @@ loop-less : tie.Need-loop-less Inv-loop μ-loop
 loop-less c = omega arith
 
 loop-again : tie.Need-loop-again Inv-loop μ-loop
-loop-again c = 
+loop-again c =
     let h = c .before .before .before .before .before .before .before .loop .inv in
-    let t = c .before .before .before .touch .ensures in
-    (h .0, ⊎-elim
-    (λ w. rw (w .2) (turn-cold _ _ _ _ _ _ (h .1) (omega arith) _ _ (t .0) (t .1) (w .1 .given .1)))
-    (λ w. rw (w .2) (turn-known _ _ _ _ _ _ (h .1) (omega arith) _ _ (t .0) (t .1) _ (w .1 .given .1)))
-    (c .match .came))
+    let t = c .before .before .before .touch .ensures in (
+      h .0,
+      ⊎-elim
+          (λ w. rw (w .2) (turn-cold _ _ _ _ _ _ (h .1) (omega arith) _ _ (t .0) (t .1) (w .1 .given .1)))
+          (λ w. rw (w .2) (turn-known _ _ _ _ _ _ (h .1) (omega arith) _ _ (t .0) (t .1) _ (w .1 .given .1)))
+          (c .match .came),
+    )
 
 same-length-3 : tie.Need-same-length-3 Inv-loop μ-loop
 same-length-3 c = c .before .loop .inv .1 .long

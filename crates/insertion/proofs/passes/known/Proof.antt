@@ -55,8 +55,8 @@ returns-3 : tie.Need-returns-3
 returns-3 c =
     above _ _ _ (c .before .before .before .before .if1 .left) (c .before .before .if2 .left) _
     (⊎-elim
-    (λ w. w .1 ∙ spoiled-one _ _ _ (w .0 .taken))
-    (λ w. w .1 ∙ spoiled-none _ _ _ (w .0 .left))
+    (λ w. w .1 ∙ spoiled-one (c .before .before .before .before .before .before .args .m) _ _ (w .0 .taken))
+    (λ w. w .1 ∙ spoiled-none (c .before .before .before .before .before .before .args .m) _ _ (w .0 .left))
     (c .before .if3 .came))
 
 pub known-spec : {M : Type 1} → statement M
