@@ -77,11 +77,7 @@ pub fn follow(
     ensures { λ r. ⌜ Followed (now (stack .entry)) n (now (reads .entry)) extent size (now (stack .exit)) r ⌝ }
 {
     let mut held = n;
-    let mut marks = Marks {
-        since: 0,
-        depth: ahead + 1,
-        spoiled: 0,
-    };
+    let mut marks = at_place(ahead);
     let mut i: usize = 0;
     while i < reads.len() {
         if reads[i] == extent {
@@ -110,6 +106,18 @@ pub fn follow(
         held: held,
         taken: i,
         marks: marks,
+    }
+}
+
+// The marks at the place, where so many extents stand above the one put in.
+fn at_place(ahead: usize) -> Marks
+    requires { ⌜ ahead ≤ maxExtents ⌝ }
+    ensures { λ r. ⌜ r ≡ record { since = 0; depth = ahead + 1; spoiled = 0 } ⌝ }
+{
+    Marks {
+        since: 0,
+        depth: ahead + 1,
+        spoiled: 0,
     }
 }
 

@@ -1,12 +1,11 @@
 -- The misses of reads from a stack on, read by read, and of two runs of reads end to end.
 use mathlib.Core.Path.{_≡_, refl, sym, ap, _∙_}
-use Prim.Native.Nat.{ℕ, suc, _+_, _≤_, _<_}
+use Prim.Native.Nat.{ℕ, _+_, _≤_}
 use native.Mathlib.Omega.{arith}
 use native.Mathlib.Nat.{add-zero}
 use mathlib.Core.List.{List, [], _∷_, _++_, foldl}
 use mathlib.Core.Bool.{cond}
-use lib.ListN.{length, take, drop, getD, take-append-drop}
-use lib.Seq.{take-suc}
+use lib.ListN.{length, take, drop, take-append-drop}
 use Rattle.reuse.specs.Lists.{mem, count}
 use Rattle.reuse.specs.Lru.{Reuse, depth, touch, stack, reuses, within, missesAt}
 use Rattle.reuse.proofs.Lists.{by-test}
@@ -53,11 +52,6 @@ unfolding missesWith
 misses-snoc c s a x =
     misses-append c s a (x ∷ [])
     ∙ rw (misses-step c (foldl touch s a) x [], misses-none c (touch (foldl touch s a) x), add-zero (missOf c (foldl touch s a) x))
-
--- the read at a place more
-pub misses-next : (c : ℕ) (s t : List ℕ) (i : ℕ) → i < length t
-    → missesFrom c s (take (suc i) t) ≡ missesFrom c s (take i t) + missOf c (foldl touch s (take i t)) (getD t i 0)
-misses-next c s t i h = rw (take-suc t i 0 h) (misses-snoc c s (take i t) (getD t i 0))
 
 -- no more misses than reads
 pub misses-most : (c : ℕ) (s t : List ℕ) → missesFrom c s t ≤ length t

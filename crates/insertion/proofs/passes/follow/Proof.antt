@@ -17,11 +17,11 @@ Inv-loop stack₀ n reads extent size ahead held₀ marks₀ i₀ stack held mar
 abbrev μ-loop : tie.MeasureT-loop
 μ-loop stack₀ n reads extent size ahead held₀ marks₀ i₀ stack held marks i = length reads - i
 
-add-t12 : tie.Need-add-t12 Inv-loop μ-loop
-add-t12 c = omega (arith, ahead-small _ _ _ _ _ (c .before .before .pre))
+at-place-requires : tie.Need-at-place-requires Inv-loop μ-loop
+at-place-requires c κs = ahead-small _ _ _ _ _ (c .before .before .pre)
 
 loop-holds : tie.Need-loop-holds Inv-loop μ-loop
-loop-holds c = follow-start _ _ _ _ _ _ (c .before .before .pre)
+loop-holds c = rw (c .at-place .ensures) (follow-start _ _ _ _ _ _ (c .before .before .before .pre))
 
 mul-if1 : tie.Need-mul-if1 Inv-loop μ-loop
 mul-if1 c = search needs
@@ -111,7 +111,7 @@ follow-spec =
     (tie.spec
     Inv-loop
     μ-loop
-    add-t12
+    at-place-requires
     loop-holds
     mul-if1
     shared-slice-read-if1
