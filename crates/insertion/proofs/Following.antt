@@ -4,27 +4,25 @@ use Prim.Native.Nat.{ℕ, suc, _+_, _≤_, _<_}
 use native.Mathlib.Omega.{arith}
 use native.Mathlib.Numerals.{add-one}
 use mathlib.Core.List.{List, [], _∷_, _++_, foldl}
-use mathlib.Core.Bool.{true, false, or-false}
+use mathlib.Core.Bool.{false, or-false}
 use lib.Dec.{eqb, leb, ltb}
 use lib.ListN.{length, take, getD, length-append, length-take}
-use lib.Seq.{take-suc, take-all}
+use lib.Seq.{take-suc}
 use borrow.Author.Tests.{leb-true, leb-false, ltb-true, ltb-false, ne-eqb}
 use Rattle.reuse_engine.specs.declared.Place.{Place}
 use Rattle.reuse_engine.specs.declared.Place.the-variants.{Cold, Depth, Full}
-use Rattle.reuse.specs.Limits.{maxReads, maxExtents}
+use Rattle.reuse.specs.Limits.{maxExtents}
 use Rattle.reuse.specs.Lists.{mem, before}
 use Rattle.reuse.specs.Lru.{at, depth, touch}
 use Rattle.reuse.proofs.Lists.{by-test, mem-append}
 use Rattle.reuse_engine.specs.Engine.{placeOf, leftBy}
 use Rattle.reuse_engine.proofs.Engine.{place-depth, place-new}
 use Rattle.reuse_engine.proofs.Runs.{Running, run-start, run-full, held-fits, turn-cold, turn-known}
-use Rattle.insertion_calls.specs.Misses.{missesFrom}
 use Rattle.insertion_calls.specs.Trails.{Trail}
 use Rattle.insertion_calls.proofs.Steps.{misses-most}
 use Rattle.insertion_calls.proofs.Trails.{trail-start, trail-cold, trail-top, trail-below, trail-above}
 use Rattle.insertion.specs.Passes.{Ready, Ahead, Small, withNewcomer, withKnown, Followed}
 use Rattle.insertion.specs.declared.passes.Marks.{Marks}
-use Rattle.insertion.specs.declared.passes.Traced.{Traced}
 use Rattle.insertion.proofs.Holding.{row-wide, held-small, left-wide}
 
 -- no more stand before a word than in all

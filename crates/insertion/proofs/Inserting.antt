@@ -3,15 +3,14 @@ use mathlib.Core.Path.{_≡_, refl, sym, ap, _∙_}
 use Prim.Native.Nat.{ℕ, suc, _+_, _-_, _≤_, _<_, min}
 use native.Mathlib.Omega.{arith}
 use mathlib.Core.List.{List, [], _∷_, _++_, foldl, foldl-append}
-use mathlib.Core.Bool.{Bool, true, false, cond, _||_, or-true, or-false, true≢false}
+use mathlib.Core.Bool.{Bool, true, false, cond, _||_, or-true, true≢false}
 use lib.Dec.{eqb, ltb}
-use lib.ListN.{length, take, drop, getD, length-take, length-drop, take-append-drop}
+use lib.ListN.{length, take, drop, getD, length-drop, take-append-drop}
 use lib.Seq.{take-all, drop-cons, drop-drop, length-take-le}
 use borrow.Author.Tests.{ltb-true, ltb-false, lt-ltb, le-ltb}
 use Rattle.reuse.specs.Limits.{maxReads, maxExtents}
 use Rattle.reuse.specs.Lists.{mem, before, distinct, firsts}
 use Rattle.reuse.specs.Lru.{touch, stack}
-use Rattle.reuse.specs.Traces.{Within}
 use Rattle.reuse.proofs.Lists.{by-test, eqb-same, mem-append}
 use Rattle.reuse.proofs.Stack.{length-stack, mem-stack, distinct-stack, distinct-from}
 use Rattle.reuse.proofs.Depth.{length-before}
@@ -27,7 +26,7 @@ use Rattle.insertion.specs.Passes.{Ready, Held, Ahead, Followed}
 use Rattle.insertion.specs.declared.passes.Traced.{Traced}
 
 -- a row before the first read
-pub ready-blank : (row reads : List ℕ) → length row ≡ maxExtents → length reads ≤ maxReads → Ready row 0 reads
+ready-blank : (row reads : List ℕ) → length row ≡ maxExtents → length reads ≤ maxReads → Ready row 0 reads
 unfolding distinct
 ready-blank row reads w s = record { wide = w; held = omega arith; once = refl; short = s }
 

@@ -87,10 +87,10 @@ pub fn follow(
         match place {
             Place::Cold => {
                 held = held + 1;
-                marks = newcomer(marks);
+                marks = with_newcomer(marks);
             }
             Place::Depth(d) => {
-                marks = known(marks, d, size as usize);
+                marks = with_known(marks, d, size as usize);
             }
             Place::Full => {
                 held = reuse::MAX_EXTENTS + 1;
@@ -122,7 +122,7 @@ fn at_place(ahead: usize) -> Marks
 }
 
 // The marks after a read of an extent that was not read before: it misses both times.
-fn newcomer(m: Marks) -> Marks
+fn with_newcomer(m: Marks) -> Marks
     requires { ⌜ Small m ⌝ }
     ensures { λ r. ⌜ r ≡ withNewcomer m ⌝ }
 {
@@ -135,7 +135,7 @@ fn newcomer(m: Marks) -> Marks
 
 // The marks after a read at a depth: one of an extent that was not read since the place is one deeper with the read put in,
 // but where it stands below the extent put in.
-fn known(m: Marks, d: usize, size: usize) -> Marks
+fn with_known(m: Marks, d: usize, size: usize) -> Marks
     requires { ⌜ Small m ⌝ }
     ensures { λ r. ⌜ r ≡ withKnown m d size ⌝ }
 {
@@ -143,7 +143,7 @@ fn known(m: Marks, d: usize, size: usize) -> Marks
         return m;
     }
     if m.depth < d {
-        return newcomer(m);
+        return with_newcomer(m);
     }
     let mut spoiled = m.spoiled;
     if d == size {

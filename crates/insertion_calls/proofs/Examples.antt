@@ -1,7 +1,7 @@
 -- Worked examples, computed from the definitions.
 use mathlib.Core.Path.{_≡_, refl}
 use mathlib.Core.List.{[], _∷_}
-use lib.IntN.{pos, negℤ, _-ℤ_}
+use lib.IntN.{pos, negℤ}
 use Rattle.reuse.specs.Lists.{mem, remove, firsts, count, from}
 use Rattle.reuse.specs.Lru.{depth, touch, reuses, missesAt}
 use Rattle.reuse.specs.Cache.{lastRead, oldest, evict, admit, hits, cacheHits, cacheMisses}

@@ -11,7 +11,6 @@ use lib.ListN.{length, length-append}
 use borrow.Author.Tests.{eqb-true, ne-eqb}
 use Rattle.reuse.specs.Limits.{maxReads, maxExtents}
 use Rattle.reuse.specs.Lists.{mem, distinct, firsts, from}
-use Rattle.reuse.specs.Traces.{Within}
 use Rattle.reuse.proofs.Lists.{by-test, mem-append, mem-firsts, eqb-same}
 use Rattle.reuse.proofs.Distinct.{distinct-cons, distinct-firsts}
 use Rattle.reuse.proofs.Sizes.{fewer}

@@ -1,7 +1,7 @@
 -- Each refusal of the call on one more read is given exactly under its condition, in order.
 use mathlib.Core.Path.{_≡_, refl, sym, ap}
 use mathlib.Core.Logic.{_↔_}
-use Prim.Native.Nat.{ℕ, _≤_, _<_}
+use Prim.Native.Nat.{ℕ, _≤_}
 use native.Mathlib.Omega.{arith}
 use mathlib.Core.Bool.{Bool, true, false, cond, false≢true}
 use mathlib.Core.List.{List}
@@ -11,7 +11,6 @@ use lib.ListN.{length}
 use borrow.Author.Tests.{leb-true, leb-false, le-leb, lt-leb}
 use Rattle.reuse.specs.Limits.{maxReads, maxExtents}
 use Rattle.reuse.specs.Lists.{firsts}
-use Rattle.reuse.specs.Traces.{Within}
 use Rattle.reuse.proofs.Tests.{exactly-first, exactly-second, exactly-third}
 use Rattle.insertion_calls.specs.Insertion.{put, changeOf}
 use Rattle.insertion_calls.specs.Calls.{insertionCall}

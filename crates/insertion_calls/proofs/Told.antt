@@ -1,14 +1,13 @@
 -- The change is told by a trail up to the next read of the extent put in, or to the trace's end.
-use mathlib.Core.Path.{_≡_, refl, sym, ap, ap₂, _∙_}
-use Prim.Native.Nat.{ℕ, suc, _+_, _≤_, _<_}
+use mathlib.Core.Path.{_≡_, ap₂, _∙_}
+use Prim.Native.Nat.{ℕ, suc, _+_}
 use native.Mathlib.Omega.{arith}
-use mathlib.Core.List.{List, [], _∷_, _++_, foldl}
-use mathlib.Core.Bool.{true, false, cond, _||_}
+use mathlib.Core.List.{List, _∷_, _++_, foldl}
+use mathlib.Core.Bool.{true, false}
 use lib.IntN.{pos, _-ℤ_}
-use lib.ListN.{length, take, drop, getD, take-append-drop}
-use lib.Seq.{take-all, drop-cons}
+use lib.ListN.{length, take, drop}
 use Rattle.reuse.specs.Lists.{mem, remove, before}
-use Rattle.reuse.specs.Lru.{depth, touch, stack}
+use Rattle.reuse.specs.Lru.{touch, stack}
 use Rattle.reuse.proofs.Lists.{by-test, eqb-same}
 use Rattle.reuse.proofs.Depth.{depth-before, depth-under}
 use Rattle.insertion_calls.specs.Insertion.{changeOf}

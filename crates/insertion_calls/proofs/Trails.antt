@@ -4,13 +4,13 @@ use mathlib.Core.Logic.{_⊎_, inl, inr, ⊎-elim}
 use Prim.Native.Nat.{ℕ, suc, _+_, _≤_, _<_}
 use native.Mathlib.Omega.{arith}
 use mathlib.Core.List.{List, [], _∷_, _++_, foldl, foldl-append}
-use mathlib.Core.Bool.{Bool, true, false, cond, _||_, or-true, or-false}
+use mathlib.Core.Bool.{Bool, true, false, cond, _||_, or-false}
 use lib.Dec.{eqb, leb}
 use lib.ListN.{length}
 use borrow.Author.Tests.{eqb-true, eqb-false, leb-true, leb-false, le-leb, lt-leb}
 use Rattle.reuse.specs.Lists.{mem, remove, before, distinct}
 use Rattle.reuse.specs.Lru.{at, cold, depth, touch}
-use Rattle.reuse.proofs.Lists.{by-test, clash, eqb-same, eqb-sym, mem-append, mem-remove, remove-absent, remove-outside}
+use Rattle.reuse.proofs.Lists.{by-test, clash, eqb-sym, mem-append, mem-remove, remove-absent, remove-outside}
 use Rattle.reuse.proofs.Distinct.{distinct-remove, length-remove}
 use Rattle.reuse.proofs.Stack.{distinct-touch, length-known, length-new}
 use Rattle.reuse.proofs.Depth.{depth-top, depth-under, depth-within, depth-absent, before-outside, distinct-before, mem-before}

@@ -4,7 +4,6 @@ use mathlib.Core.Path.{_≡_, sym, ap, ap₂, _∙_}
 use native.Mathlib.Omega.{arith}
 use mathlib.Core.List.{List}
 use lib.IntN.{ℤ, pos, _-ℤ_}
-use lib.ListN.{length}
 use lib.Signed.{_≤ℤ_}
 use Rattle.reuse.specs.Cache.{cacheMisses}
 use Rattle.reuse.specs.Traces.{Within}

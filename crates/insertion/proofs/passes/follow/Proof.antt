@@ -44,14 +44,14 @@ enum-told c = search needs
 add-held : tie.Need-add-held Inv-loop μ-loop
 add-held c = omega (arith, held-small _ _ _ _ _ _ (c .before .before .before .before .before .before .before .before .before .before .loop .inv .given) (c .before .before .before .before .before .before .before .before .before .before .loop .inv .run))
 
-newcomer-requires : tie.Need-newcomer-requires Inv-loop μ-loop
-newcomer-requires c κs = marks-small _ _ _ _ _ _ _ _ _ (c .before .before .before .before .before .before .before .before .before .before .loop .inv) (omega arith)
+with-newcomer-requires : tie.Need-with-newcomer-requires Inv-loop μ-loop
+with-newcomer-requires c κs = marks-small _ _ _ _ _ _ _ _ _ (c .before .before .before .before .before .before .before .before .before .before .loop .inv) (omega arith)
 
 enum-known-place : tie.Need-enum-known-place Inv-loop μ-loop
 enum-known-place c = search needs
 
-known-requires : tie.Need-known-requires Inv-loop μ-loop
-known-requires c κs = marks-small _ _ _ _ _ _ _ _ _ (c .before .before .before .before .before .before .before .before .before .before .before .loop .inv) (omega arith)
+with-known-requires : tie.Need-with-known-requires Inv-loop μ-loop
+with-known-requires c κs = marks-small _ _ _ _ _ _ _ _ _ (c .before .before .before .before .before .before .before .before .before .before .before .loop .inv) (omega arith)
 
 enum-told-2 : tie.Need-enum-told-2 Inv-loop μ-loop
 enum-told-2 c = search needs
@@ -120,9 +120,9 @@ follow-spec =
     touch-requires
     enum-told
     add-held
-    newcomer-requires
+    with-newcomer-requires
     enum-known-place
-    known-requires
+    with-known-requires
     enum-told-2
     add-held-2
     enum-told-3

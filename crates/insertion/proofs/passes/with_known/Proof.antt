@@ -1,4 +1,4 @@
--- `insertion::passes::known` meets its contract.
+-- `insertion::passes::with_known` meets its contract.
 use mathlib.Core.Path.{_≡_, sym, ap, _∙_}
 use mathlib.Core.Logic.{⊎-elim}
 use Prim.Native.Nat.{ℕ, _+_, _≤_, _<_}
@@ -10,8 +10,8 @@ use Rattle.reuse.proofs.Lists.{eqb-same}
 use Rattle.insertion.specs.Passes.{withNewcomer, withKnown}
 use Rattle.insertion.specs.declared.passes.Marks.{Marks}
 use borrow.Author.Needs.{needs}
-use Rattle.insertion.proofs.passes.known.Statement.{statement}
-use Rattle.insertion.proofs.passes.known.Tie as tie
+use Rattle.insertion.proofs.passes.with_known.Statement.{statement}
+use Rattle.insertion.proofs.passes.with_known.Tie as tie
 
 -- the marks by where the extent stands
 module _ (m : Marks) (d c : ℕ) where
@@ -39,11 +39,11 @@ module _ (m : Marks) (d c : ℕ) where
 returns : tie.Need-returns
 returns c = newer _ _ _ (c .if1 .taken)
 
-newcomer-requires : tie.Need-newcomer-requires
-newcomer-requires c κs = search needs
+with-newcomer-requires : tie.Need-with-newcomer-requires
+with-newcomer-requires c κs = search needs
 
 returns-2 : tie.Need-returns-2
-returns-2 c = c .newcomer .ensures ∙ below _ _ _ (c .before .before .before .if1 .left) (c .before .if2 .taken)
+returns-2 c = c .with-newcomer .ensures ∙ below _ _ _ (c .before .before .before .if1 .left) (c .before .if2 .taken)
 
 add-spoiled : tie.Need-add-spoiled
 add-spoiled c = search needs
@@ -59,5 +59,5 @@ returns-3 c =
     (λ w. w .1 ∙ spoiled-none (c .before .before .before .before .before .before .args .m) _ _ (w .0 .left))
     (c .before .if3 .came))
 
-pub known-spec : {M : Type 1} → statement M
-known-spec = tie.close (tie.spec returns newcomer-requires returns-2 add-spoiled add-t6 returns-3)
+pub with-known-spec : {M : Type 1} → statement M
+with-known-spec = tie.close (tie.spec returns with-newcomer-requires returns-2 add-spoiled add-t6 returns-3)
