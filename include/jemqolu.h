@@ -66,10 +66,10 @@ enum jemqolu_refusal {
 #define JEMQOLU_LEVEL_WORDS 6148    /* the work words for each join open at once where a plan is deepest */
 #define JEMQOLU_WORK_WORDS 49184    /* 6,148 * 8: any plan */
 #define JEMQOLU_LISTING_BYTES 23616 /* 64 + 23 * 1,024: any listing */
-#define JEMQOLU_SESSION_WORDS 8193  /* a session */
+#define JEMQOLU_SESSION_WORDS 6146  /* a session */
 #define JEMQOLU_WATCH_WORDS 4       /* a watch */
-#define JEMQOLU_NAME_WORDS 8194     /* 1 + 8,193: the place of a name; the names 1 to k need k times as many */
-#define JEMQOLU_NAMES_WORDS 65552   /* 8,194 * 8: all names */
+#define JEMQOLU_NAME_WORDS 6147     /* 1 + 6,146: the place of a name; the names 1 to k need k times as many */
+#define JEMQOLU_NAMES_WORDS 49176   /* 6,147 * 8: all names */
 #define JEMQOLU_STACK_BYTES 196608  /* the stack of any call, beside what the thread and the caller use of it */
 
 /* The summary of a list of reads, a whole part in one call.
@@ -138,18 +138,22 @@ int64_t jemqolu_plan(const uint8_t *text, size_t text_len, const uint32_t *log, 
  * Refusals: the earliest faulty line's, on one line -1, -2, -8, -9; then -6. */
 int64_t jemqolu_list(const uint8_t *text, size_t text_len, uint8_t *out, size_t out_len);
 
-/* A session is 8,193 words with the caller, who may keep and copy them:
+/* A session is 6,146 words with the caller, who may keep and copy them:
  *   word 0            L, the reads accepted
  *   words 1..1024     F, the extents by first read, 0 after them
  *   words 1025..2048  H, word 1,024 + d counts the reads of distance d
  *   words 2049..4096  2,048 slots: an extent stands in the slot of its last read, 0 in the others
- *   words 4097..8191  4,095 sums: 2,048 leaves, 1 for a marked slot; the parent of p is 2,048 + p / 2; the last is the root
- *   word 8192         the next slot
+ *   word 4097         the count of all marks: each extent has one, in the slot of its last read
+ *   words 4098..6144  2,047 right-hand sums, one for each branching point of the binary tree over the slots: word 4,098 + p has
+ *                     the marks under the right child of point p. The lowest points come first, then each level above them,
+ *                     the root last: the children of point p are 2p, the left one, and 2p + 1, a number below 2,048 being that
+ *                     of a slot, 2,048 + q that of point q
+ *   word 6145         the next slot
  * Words lent past these are neither read nor written.
- * Each call on a session copies its 32 KB and tests all of it: 6 to 13 microseconds a read, however few extents it has, where
+ * Each call on a session copies its 24 KB and tests all of it: 6 to 13 microseconds a read, however few extents it has, where
  * jemqolu_summarize and jemqolu_distances take 0.003 to 0.16 a read. Whoever has a list of reads calls those. */
 
-/* A new session. Lent: 8,193 words. Answer: 8,193. Refusal: -6. */
+/* A new session. Lent: 6,146 words. Answer: 6,146. Refusal: -6. */
 int64_t jemqolu_session_new(uint32_t *session, size_t session_len);
 
 /* One more read. Where the next slot is 2,048, the v extents first move, in order, to the slots 0 to v - 1, and the next
@@ -174,14 +178,14 @@ int64_t jemqolu_session_share(const uint32_t *session, size_t session_len, uint3
 
 /* Names for moments: a name, 1 to 8, stands for the session as it was when it was named. After a return to it the session's
  * log is the one of that moment, followed by what is read after the return, as often as one returns. All answers and the
- * summary are those of this log, whatever else was called. Names are 8 places of 8,194 words each with the caller, who may
- * keep and copy them; the place of name k starts at word (k - 1) * 8,194:
+ * summary are those of this log, whatever else was called. Names are 8 places of 6,147 words each with the caller, who may
+ * keep and copy them; the place of name k starts at word (k - 1) * 6,147:
  *   its word 0         whether the name is set: 0 where it is not, any other number where it is
- *   its words 1..8193  the session under the name
- * Of fewer words than all 65,552, the names whose places lie within them can be used. Words past these are neither read nor
+ *   its words 1..6146  the session under the name
+ * Of fewer words than all 49,176, the names whose places lie within them can be used. Words past these are neither read nor
  * written. A naming and a return take no longer than a read. */
 
-/* Names of which none is set. Lent: 65,552 words, which become 0. Answer: 65,552. Refusal: -6. */
+/* Names of which none is set. Lent: 49,176 words, which become 0. Answer: 49,176. Refusal: -6. */
 int64_t jemqolu_names_new(uint32_t *names, size_t names_len);
 
 /* The present session put under a name, in place of what was there; the name's word 0 becomes 1.
@@ -191,7 +195,7 @@ int64_t jemqolu_session_name(const uint32_t *session, size_t session_len,
                              uint32_t *names, size_t names_len, uint32_t name);
 
 /* A return to the session under a name. No name is forgotten.
- * Lent: the session, 8,193 words, whose contents make no difference; the names. Answer: 0.
+ * Lent: the session, 6,146 words, whose contents make no difference; the names. Answer: 0.
  * Refusals, in order: -2, -11 where the name is not set in these words (a place that does not lie within them is
  * not), -7 for the session under the name, -6. */
 int64_t jemqolu_session_return(uint32_t *session, size_t session_len,
