@@ -13,9 +13,13 @@ maxExtents = 1_024
 abbrev pub slotCount : ℕ
 slotCount = 2_048
 
--- the sums of a session: a full binary tree over its slots
+-- the sums of a full binary tree over the slots, one for each slot and each branching point
 abbrev pub sumCount : ℕ
 sumCount = 4_095
+
+-- the right-hand sums of a session: one for each branching point of that tree
+abbrev pub rightCount : ℕ
+rightCount = 2_047
 
 -- the levels of that tree above its leaves, as many as a slot's number has binary digits
 abbrev pub levels : ℕ

@@ -1,6 +1,6 @@
 // Reuse distances: the definitions, their laws, and the limits.
 ghost use mathlib.Core.Path.{_≡_};
-ghost use Rattle.reuse.specs.Limits.{maxReads, maxExtents, slotCount, sumCount, levels, maxStore, maxCustomers, maxNames};
+ghost use Rattle.reuse.specs.Limits.{maxReads, maxExtents, slotCount, rightCount, levels, maxStore, maxCustomers, maxNames};
 
 // The most reads of a trace.
 pub const MAX_READS: u32 = 1048576;
@@ -8,8 +8,8 @@ pub const MAX_READS: u32 = 1048576;
 pub const MAX_EXTENTS: usize = 1024;
 // The slots of a session.
 pub const SLOTS: usize = 2048;
-// The sums of a session: a full binary tree over its slots.
-pub const SUMS: usize = 4095;
+// The right-hand sums of a session: one for each branching point of the binary tree over its slots.
+pub const RIGHTS: usize = 2047;
 // The levels of that tree above its leaves.
 pub const LEVELS: u32 = 11;
 // A cold read is written as this plus its number.
@@ -26,7 +26,7 @@ pub struct Bounds {
     pub reads: u32,
     pub extents: usize,
     pub slots: usize,
-    pub sums: usize,
+    pub rights: usize,
     pub levels: u32,
     pub store: usize,
     pub customers: usize,
@@ -35,13 +35,13 @@ pub struct Bounds {
 
 // The limits, for callers that size their buffers by them.
 pub fn limits() -> Bounds
-    ensures { λ r. ⌜ r ≡ record { reads = maxReads; extents = maxExtents; slots = slotCount; sums = sumCount; levels = levels; store = maxStore; customers = maxCustomers; names = maxNames } ⌝ }
+    ensures { λ r. ⌜ r ≡ record { reads = maxReads; extents = maxExtents; slots = slotCount; rights = rightCount; levels = levels; store = maxStore; customers = maxCustomers; names = maxNames } ⌝ }
 {
     Bounds {
         reads: MAX_READS,
         extents: MAX_EXTENTS,
         slots: SLOTS,
-        sums: SUMS,
+        rights: RIGHTS,
         levels: LEVELS,
         store: MAX_STORE,
         customers: MAX_CUSTOMERS,

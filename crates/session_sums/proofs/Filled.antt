@@ -3,8 +3,8 @@ use mathlib.Core.Path.{_≡_, refl, sym, ap, _∙_}
 use mathlib.Core.List.{List, [], _∷_, _++_}
 use Prim.Native.Nat.{ℕ, zero, suc, _+_, _-_, _≤_, _<_, min}
 use native.Mathlib.Omega.{arith}
-use lib.ListN.{length, take, set, length-append, replicate, length-replicate, replicate-append-replicate}
-use lib.Seq.{set-append-seam, append-snoc, take-append-add}
+use lib.ListN.{length, set, length-append, replicate, length-replicate, replicate-append-replicate}
+use lib.Seq.{set-append-seam, append-snoc}
 use Rattle.reuse.specs.Lists.{sum}
 use Rattle.reuse.specs.Limits.{slotCount}
 use Rattle.session_sums.specs.Sums.{filled, firstMarks}
@@ -23,23 +23,6 @@ filled-more N l x h =
 
     more : N - length l ≡ suc (N - (length l + 1))
     more = omega arith
-
--- zeros, cut
-take-blank-row : (k n : ℕ) → k ≤ n → take {A = ℕ} k (replicate n 0) ≡ replicate k 0
-take-blank-row zero n h = refl
-take-blank-row (suc k) zero h = absurd (omega arith)
-take-blank-row (suc k) (suc n) h = ap {B = List ℕ} (λ r. 0 ∷ r) (take-blank-row k n (omega arith))
-
--- a filled row, cut
-pub take-filled : (M N : ℕ) (l : List ℕ) → length l ≤ M → M ≤ N → take M (filled N l) ≡ filled M l
-unfolding filled
-take-filled M N l h g =
-    ap (λ (k : ℕ). take k (l ++ replicate (N - length l) 0)) at
-    ∙ take-append-add l (replicate (N - length l) 0) (M - length l)
-    ∙ ap (λ (r : List ℕ). l ++ r) (take-blank-row (M - length l) (N - length l) (omega arith))
-  where
-    at : M ≡ length l + (M - length l)
-    at = omega arith
 
 -- a filled row has the length of its array
 pub length-filled : (N : ℕ) (l : List ℕ) → length l ≤ N → length (filled N l) ≡ N
@@ -100,15 +83,3 @@ module _ (N : ℕ) (out : List ℕ) (i : ℕ) (e : out ≡ filled N (replicate i
       ∙ ap (λ (k : ℕ). set (filled N (replicate i 1)) k 1) (sym long)
       ∙ filled-more N (replicate i 1) 1 (omega (arith, long))
       ∙ ap (filled N) (ones-more i)
-
-  -- the array keeps its length
-  pub ones-size : i ≤ N → length out ≡ N
-  ones-size h = ap length e ∙ length-filled N (replicate i 1) (omega (arith, long))
-
-  -- the first M of it
-  pub ones-take : (M : ℕ) → i ≤ M → M ≤ N → take M out ≡ filled M (replicate i 1)
-  ones-take M h g = ap (take M) e ∙ take-filled M N (replicate i 1) (omega (arith, long)) g
-
-  -- the marks set are i
-  pub ones-sum : (M : ℕ) → i ≤ M → M ≤ N → sum (take M out) ≡ i
-  ones-sum M h g = ap sum (ones-take M h g) ∙ sum-filled M (replicate i 1) ∙ sum-ones i

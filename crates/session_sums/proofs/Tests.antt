@@ -2,11 +2,11 @@
 use Prim.Native.Nat.{ℕ}
 use mathlib.Core.Path.{_≡_, refl, sym, ap, _∙_}
 use mathlib.Core.List.{List, [], _∷_}
-use mathlib.Core.Bool.{true, false}
+use mathlib.Core.Bool.{true}
 use lib.Dec.{eqb}
 use borrow.Author.Tests.{eqb-true}
 use Rattle.session_sums.specs.Sums.{same}
-use Rattle.reuse.proofs.Lists.{clash, by-test, both, eqb-same}
+use Rattle.reuse.proofs.Lists.{clash, both, eqb-same}
 
 -- a list is the same as itself
 pub same-refl : (l : List ℕ) → same l l ≡ true
@@ -29,7 +29,3 @@ same-eq (x ∷ a) (y ∷ b) h =
     let e : x ≡ y = eqb-true x y (p .0) in
     let q : a ≡ b = same-eq a b (p .1) in
     cc
-
--- lists that differ fail it
-pub same-not : (a b : List ℕ) → (a ≡ b → ⊥) → same a b ≡ false
-same-not a b h = by-test (same a b) (λ t. absurd (h (same-eq a b t))) (λ f. f)

@@ -3,12 +3,11 @@ use Prim.Native.Nat.{ℕ, zero, suc, _+_, _-_, _/_, _%_, _≤_}
 use mathlib.Core.Path.{_≡_, refl, sym, ap, _∙_}
 use mathlib.Core.List.{List, [], _∷_, _++_}
 use native.Mathlib.Omega.{arith}
-use lib.ListN.{length, take, getD, replicate, length-append, length-set, set, replicate-append-replicate}
+use lib.ListN.{length, take, getD, replicate, length-append, replicate-append-replicate}
 use lib.Seq.{getD-append-add, take-length, take-append-seam}
 use Rattle.reuse.specs.Lists.{sum}
 use Rattle.reuse.specs.Limits.{slotCount, sumCount, levels}
 use Rattle.session_sums.specs.Sums.{pairs, sumsOf, marksIn, Trued}
-use Rattle.reuse.proofs.Sums.{sum-set}
 
 -- how many leaves a full tree of depth d has
 unfoldable pub leaves : ℕ → ℕ
@@ -118,21 +117,6 @@ trued-root d N S t e =
     ap (λ (l : List ℕ). getD l (N + N - 2) 0) (t .true-sums)
     ∙ ap (λ (k : ℕ). getD (sumsOf d (take N S)) (k + k - 2) 0) (sym e)
     ∙ root-of d (take N S) (t .full ∙ sym e)
-
--- the leaves after one is set
-pub take-sums-set : (d N : ℕ) (S : List ℕ) (s v : ℕ) → Trued d N S → leaves d ≡ N → take N (sumsOf d (set (take N S) s v)) ≡ set (take N S) s v
-take-sums-set d N S s v t e =
-    take-sums d N (set (take N S) s v) (length-set (take N S) s v ∙ t .full)
-
--- the sums over a leaf that was set are true
-pub trued-set : (d N : ℕ) (S : List ℕ) (s v : ℕ) → Trued d N S → leaves d ≡ N → sum (take N S) + v ≤ N → Trued d N (sumsOf d (set (take N S) s v))
-trued-set d N S s v t e h =
-    let same = take-sums-set d N S s v t e in
-    record {
-      full = ap length same ∙ length-set (take N S) s v ∙ t .full;
-      true-sums = ap (sumsOf d) (sym same);
-      few = omega (arith, ap sum same, sum-set (take N S) s v);
-    }
 
 -- sums made over a row of marks are true
 pub trued-of : (d N : ℕ) (S ms : List ℕ) → S ≡ sumsOf d ms → length ms ≡ N → sum ms ≤ N → Trued d N S

@@ -6,7 +6,7 @@ use mathlib.Core.Bool.{Bool, true, false, cond, _&&_}
 use lib.Dec.{eqb}
 use lib.ListN.{length, take, replicate}
 use Rattle.reuse.specs.Lists.{sum}
-use Rattle.reuse.specs.Limits.{slotCount, sumCount, levels}
+use Rattle.reuse.specs.Limits.{slotCount}
 
 -- the level above: neighbours added two by two
 unfoldable pub pairs : List ℕ → List ℕ
@@ -39,10 +39,6 @@ same (x ∷ xs) (y ∷ ys) = eqb x y && same xs ys
 -- the leaves of the sums: 1 where the slot is marked
 abbrev pub marksIn : List ℕ → List ℕ
 marksIn sums = take slotCount sums
-
--- as many words as a session has sums, and those over their leaves
-unfoldable pub trueSums : List ℕ → Bool
-trueSums sums = eqb (length sums) sumCount && same sums (sumsOf levels (marksIn sums))
 
 -- l, and 0 after it up to n words
 unfoldable pub filled : ℕ → List ℕ → List ℕ

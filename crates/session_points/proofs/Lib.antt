@@ -1,0 +1,7 @@
+mod Places
+pub mod Ups
+pub mod Changing
+pub mod Marking
+mod Spreads
+mod Downs
+mod Fronts

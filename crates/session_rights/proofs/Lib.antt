@@ -1,0 +1,5 @@
+pub mod Levels
+pub mod Rights
+pub mod Totals
+pub mod Changes
+pub mod Trees
