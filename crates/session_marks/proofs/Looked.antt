@@ -7,8 +7,7 @@ use native.Mathlib.Omega.{arith}
 use native.Mathlib.Decide.{ℕ-discrete}
 use lib.ListN.{length, length-reverse}
 use Rattle.reuse.specs.Lists.{mem, from}
-use Rattle.session_sums.specs.Sums.{marksIn}
-use Rattle.session_marks.specs.Marks.{marked, slotFrom, isMarkOf, lookedBelow, Searched}
+use Rattle.session_marks.specs.Marks.{marked, slotFrom, isMarkOf, lookedOf, lookedBelow, Searched}
 use Rattle.reuse.proofs.Lists.{clash, by-test}
 use Rattle.reuse.proofs.Counts.{length-from, from-snoc}
 use Rattle.session_marks.proofs.Marks.{mem-marked, slot-found, slot-marked, out-below}
@@ -25,12 +24,12 @@ length-down k n = length-reverse (from k n) ∙ length-from k n
 module _ (xs ms : List ℕ) (x : ℕ) where
   -- at the slot with the mark of x the search ends
   looked-here : (i : ℕ) → isMarkOf xs ms x i ≡ true → lookedBelow xs ms x (suc i) ≡ i ∷ []
-  unfolding lookedBelow
+  unfolding lookedOf
   looked-here i t = rw t
 
   -- past a slot without it the search goes on
   looked-on : (i : ℕ) → isMarkOf xs ms x i ≡ false → lookedBelow xs ms x (suc i) ≡ i ∷ lookedBelow xs ms x i
-  unfolding lookedBelow
+  unfolding lookedOf
   looked-on i f = rw f
 
   -- where the search below suc k ends at slot k, and no slot between k and n has the mark of x, the search below n goes down to k
@@ -51,17 +50,17 @@ module _ (xs ms : List ℕ) (x : ℕ) where
           ∙ sym (ap (λ (m : ℕ). reverse (from k m)) more ∙ run-down k (n - k) ∙ ap (λ (m : ℕ). m ∷ reverse (from k (n - k))) top)
 
 module _ (xs ms : List ℕ) (next x : ℕ) (s : Searched xs ms next) where
-  module _ (old : mem x (marked (marksIn ms) xs) ≡ true) where
+  module _ (old : mem x (marked ms xs) ≡ true) where
     -- the slot of x
     abbrev slot : ℕ
-    slot = slotFrom (marksIn ms) xs x
+    slot = slotFrom ms xs x
 
     -- it stands below next
     below : slot < next
     below = out-below (searched-row xs ms next x s) x next old (s .free)
 
     -- of a marked extent: from the newest slot down to its own
-    pub looked-known : lookedBelow xs ms x next ≡ reverse (from (slotFrom (marksIn ms) xs x) (next - slotFrom (marksIn ms) xs x))
+    pub looked-known : lookedBelow xs ms x next ≡ reverse (from (slotFrom ms xs x) (next - slotFrom ms xs x))
     looked-known =
         let r = searched-row xs ms next x s in
         let m = slot-marked r x old in
@@ -73,10 +72,10 @@ module _ (xs ms : List ℕ) (next x : ℕ) (s : Searched xs ms next) where
         below
 
     -- as many as next less that slot
-    pub count-known : length (lookedBelow xs ms x next) ≡ next - slotFrom (marksIn ms) xs x
+    pub count-known : length (lookedBelow xs ms x next) ≡ next - slotFrom ms xs x
     count-known = ap length looked-known ∙ length-down slot (next - slot)
 
-  module _ (new : mem x (marked (marksIn ms) xs) ≡ false) where
+  module _ (new : mem x (marked ms xs) ≡ false) where
     -- of any other: all below next
     pub looked-new : lookedBelow xs ms x next ≡ reverse (from 0 next)
     looked-new = by next refl
@@ -88,10 +87,10 @@ module _ (xs ms : List ℕ) (next x : ℕ) (s : Searched xs ms next) where
             (λ f. f)
 
         by : (n : ℕ) → n ≡ next → lookedBelow xs ms x n ≡ reverse (from 0 n)
-        by zero e = unfold lookedBelow from in refl
+        by zero e = unfold lookedOf from in refl
         by (suc n) e =
             let b : suc n - 0 ≡ suc n = omega arith in
-            looked-down xs ms x 0 (suc n) (unfold lookedBelow in rw (none 0 (omega arith))) (λ i a l. none i (omega arith)) (omega arith)
+            looked-down xs ms x 0 (suc n) (unfold lookedOf in rw (none 0 (omega arith))) (λ i a l. none i (omega arith)) (omega arith)
             ∙ ap (λ (m : ℕ). reverse (from 0 m)) b
 
     -- as many as next

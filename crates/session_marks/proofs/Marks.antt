@@ -3,6 +3,7 @@ use Prim.Native.Nat.{ℕ, zero, suc, _≤_, _<_}
 use mathlib.Core.Path.{_≡_, refl, sym, ap, _∙_}
 use mathlib.Core.List.{List, [], _∷_, _++_, reverse, reverse-cons}
 use mathlib.Core.Bool.{true, false, _||_, _&&_}
+use mathlib.Core.Logic.{_≢_}
 use native.Mathlib.Omega.{arith}
 use lib.Dec.{eqb, leb}
 use lib.ListN.{length, drop, getD, set, replicate, length-reverse}
@@ -47,6 +48,14 @@ tidy-row (suc (suc m) ∷ ms) (x ∷ xs) w h =
     let p = both (leb (suc (suc m)) 1 && (eqb (suc (suc m)) 1 || eqb x 0)) (tidy ms xs) h in
     let q = both (leb (suc (suc m)) 1) (eqb (suc (suc m)) 1 || eqb x 0) (p .0) in
     absurd (omega (arith, leb-true (suc (suc m)) 1 (q .0)))
+
+-- a slot that does not hold 0 is marked
+pub row-held : {ms xs : List ℕ} → Row ms xs → (i : ℕ) → getD xs i 0 ≢ 0 → getD ms i 0 ≡ 1
+row-held none i n = absurd (n refl)
+row-held (bare r) zero n = absurd (n refl)
+row-held (bare r) (suc i) n = row-held r i n
+row-held (kept x r) zero n = refl
+row-held (kept x r) (suc i) n = row-held r i n
 
 -- the number of marks is that of the marked slots
 pub row-count : {ms xs : List ℕ} → Row ms xs → length (marked ms xs) ≡ sum ms

@@ -1,17 +1,17 @@
 -- Laws of the slots that a loop goes through: the marked ones gathered at the front.
 use mathlib.Core.Path.{_≡_, refl, sym, ap, _∙_}
 use mathlib.Core.List.{List, [], _∷_, _++_, append-nil}
-use mathlib.Core.Bool.{true, false, cond, or-true}
+use mathlib.Core.Bool.{true, false, cond}
 use Prim.Native.Nat.{ℕ, zero, suc, _+_, _-_, _≤_, _<_}
 use native.Mathlib.Omega.{arith}
 use native.Mathlib.Numerals.{add-one}
 use lib.Dec.{eqb}
-use lib.ListN.{length, take, drop, getD, set, replicate, length-append}
-use lib.Seq.{take-all, drop-cons, slice-cons}
-use borrow.Author.Tests.{eq-eqb, ne-eqb, le-leb, lt-leb}
+use lib.ListN.{length, take, getD, set, replicate, length-append}
+use lib.Seq.{take-all}
+use borrow.Author.Tests.{eq-eqb, ne-eqb}
 use Rattle.reuse.specs.Limits.{slotCount}
-use Rattle.session_sums.specs.Sums.{marksIn, filled}
-use Rattle.session_marks.specs.Marks.{marked, tidy, paired, gatheredRow}
+use Rattle.session_sums.specs.Sums.{filled}
+use Rattle.session_marks.specs.Marks.{marked, paired, gatheredRow}
 use Rattle.reuse.proofs.Lists.{by-test}
 use Rattle.session_sums.proofs.Filled.{filled-more, filled-none}
 
@@ -41,7 +41,7 @@ one-none m x h = simp (ne-eqb m 1 h)
 
 -- slots up to i are moved: out has those that are marked, n of them
 pub record Moved (N : ℕ) (ms xs out : List ℕ) (n i : ℕ) : Type 0 where
-  pub long : N ≤ length ms
+  pub long : length ms ≡ N
   pub wide : length xs ≡ N
   pub upto : i ≤ N
   pub few : n ≤ i
@@ -49,7 +49,7 @@ pub record Moved (N : ℕ) (ms xs out : List ℕ) (n i : ℕ) : Type 0 where
   pub moved : out ≡ filled N (marked (take i ms) (take i xs))
 
 -- before the first slot
-pub moved-start : (N : ℕ) (ms xs : List ℕ) → N ≤ length ms → length xs ≡ N → Moved N ms xs (replicate N 0) 0 0
+pub moved-start : (N : ℕ) (ms xs : List ℕ) → length ms ≡ N → length xs ≡ N → Moved N ms xs (replicate N 0) 0 0
 unfolding marked
 moved-start N ms xs h g = record { long = h; wide = g; upto = omega arith; few = omega arith; count = refl; moved = filled-none N }
 
@@ -89,13 +89,13 @@ module _ (N : ℕ) (ms xs out : List ℕ) (n i : ℕ) (b : Moved N ms xs out n i
       next = rw add-one (marked-more i ms xs (omega (arith, b .long)) (omega (arith, b .wide)) ∙ ap (λ (l : List ℕ). marked (take i ms) (take i xs) ++ l) (one-none (getD ms i 0) (getD xs i 0) z) ∙ append-nil (marked (take i ms) (take i xs)))
 
 -- all slots are moved
-pub moved-end : (N : ℕ) (ms xs out : List ℕ) (n i : ℕ) → Moved N ms xs out n i → N ≤ i → out ≡ filled N (marked (take N ms) xs)
+pub moved-end : (N : ℕ) (ms xs out : List ℕ) (n i : ℕ) → Moved N ms xs out n i → N ≤ i → out ≡ filled N (marked ms xs)
 moved-end N ms xs out n i b h =
     let at : i ≡ N = omega (arith, b .upto) in
-    b .moved ∙ ap (λ (k : ℕ). filled N (marked (take k ms) (take k xs))) at ∙ ap (λ (l : List ℕ). filled N (marked (take N ms) l)) (take-all N xs (omega (arith, b .wide)))
+    b .moved ∙ ap (λ (k : ℕ). filled N (marked (take k ms) (take k xs))) at ∙ ap (λ (l : List ℕ). filled N (marked l (take N xs))) (take-all N ms (omega (arith, b .long))) ∙ ap (λ (l : List ℕ). filled N (marked ms l)) (take-all N xs (omega (arith, b .wide)))
 
 -- what is gathered from a session's rows
-pub gathered-pair : (xs ms : List ℕ) → paired xs ms ≡ true → gatheredRow xs ms ≡ filled slotCount (marked (marksIn ms) xs)
+pub gathered-pair : (xs ms : List ℕ) → paired xs ms ≡ true → gatheredRow xs ms ≡ filled slotCount (marked ms xs)
 unfolding gatheredRow
 gathered-pair xs ms h = rw h
 

@@ -12,10 +12,10 @@ use Rattle.session_marks.proofs.gather.Statement.{statement}
 use Rattle.session_marks.proofs.gather.Tie as tie
 
 abbrev Inv-loop : tie.InvT-loop
-Inv-loop slots sums out₀ n₀ i₀ out n i = Moved slotCount sums slots out n i
+Inv-loop slots marks out₀ n₀ i₀ out n i = Moved slotCount marks slots out n i
 
 abbrev μ-loop : tie.MeasureT-loop
-μ-loop slots sums out₀ n₀ i₀ out n i = slotCount - i
+μ-loop slots marks out₀ n₀ i₀ out n i = slotCount - i
 
 paired-requires : tie.Need-paired-requires Inv-loop μ-loop
 paired-requires c κs = search needs

@@ -40,12 +40,12 @@ cast-total : tie.Need-cast-total Inv-loop μ-loop
 cast-total c = omega (arith, c .shared-slice-known .given (c .before .before .before .loop .node / 2))
 
 add-total : tie.Need-add-total Inv-loop μ-loop
-add-total c = 
+add-total c =
     let l = c .before .before .before .loop in
     omega (arith, c .shared-slice-known .given (l .node / 2), l .inv .small, l .inv .noughts, left-few levels 0 (c .before .before .before .before .before .before .args .s))
 
 add-count : tie.Need-add-count Inv-loop μ-loop
-add-count c = 
+add-count c =
     let l = c .before .before .before .loop in
     omega (arith, l .inv .noughts, left-few levels 0 (c .before .before .before .before .before .before .args .s))
 
@@ -56,13 +56,13 @@ loop-less : tie.Need-loop-less Inv-loop μ-loop
 loop-less c = omega arith
 
 loop-again : tie.Need-loop-again Inv-loop μ-loop
-loop-again c = 
+loop-again c =
     let l = c .before .before .loop in
     let t = up-turn _ _ _ _ _ _ _ (l .inv) (omega arith) in
     ⊎-elim (λ w. rw (w .2, w .3) (t .0 (w .0 .taken) (w .1 .given (l .node / 2) .fits))) (λ w. rw (w .1, w .2) (t .1 (w .0 .left))) (c .if3 .came)
 
 returns-3 : tie.Need-returns-3 Inv-loop μ-loop
-returns-3 c = 
+returns-3 c =
     let e = up-end _ _ _ _ _ _ _ (c .before .loop .inv) (omega arith) in
     rw (e .0, e .1) (sym (walked-some _ _ (slot-some _ _ (c .before .before .before .if1 .left) (c .before .before .if2 .left))))
 

@@ -47,7 +47,7 @@ loop-less : tie.Need-loop-less Inv-loop μ-loop
 loop-less c = omega arith
 
 loop-again : tie.Need-loop-again Inv-loop μ-loop
-loop-again c = 
+loop-again c =
     let t = changing-turn _ _ _ _ _ (c .before .before .loop .inv) (omega arith) in
     ⊎-elim (λ w. rw (w .3, w .2 .ensures) (t .0 (w .0 .taken))) (λ w. rw (w .1) (t .1 (w .0 .left))) (c .if2 .came)
 

@@ -44,7 +44,7 @@ cast-less : tie.Need-cast-less Inv-loop μ-loop
 cast-less c = omega (arith, c .before .shared-slice-known2 .given (c .before .before .before .loop .node / 2))
 
 add-less : tie.Need-add-less Inv-loop μ-loop
-add-less c = 
+add-less c =
     let l = c .before .before .before .loop in
     omega (arith, c .before .shared-slice-known2 .given (l .node / 2), marking-fits _ _ _ _ _ _ (l .inv) (omega arith))
 
@@ -55,7 +55,7 @@ loop-less : tie.Need-loop-less Inv-loop μ-loop
 loop-less c = omega arith
 
 loop-again : tie.Need-loop-again Inv-loop μ-loop
-loop-again c = 
+loop-again c =
     let l = c .before .before .before .loop in
     marking-turn _ _ _ _ _ _ (l .inv) (omega arith) .1 (c .if3 .left) (c .before .shared-slice-known2 .given (l .node / 2) .fits)
 

@@ -67,7 +67,7 @@ loop-less : tie.Need-loop-less Inv-loop μ-loop
 loop-less c = omega arith
 
 loop-again : tie.Need-loop-again Inv-loop μ-loop
-loop-again c = 
+loop-again c =
     let l = c .before .before .before .before .before .loop in
     ⊎-elim
     (λ w. rw (w .1, c .remaining .ensures) (spread-above _ _ _ _ _ _ (l .inv) (omega arith) (w .0 .taken)))
