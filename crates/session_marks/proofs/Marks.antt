@@ -10,6 +10,7 @@ use lib.ListN.{length, drop, getD, set, replicate, length-reverse}
 use borrow.Author.Tests.{eq-eqb, ne-eqb, eqb-true, leb-true}
 use Rattle.reuse.specs.Lists.{mem, remove, distinct, sum}
 use Rattle.reuse.specs.Lru.{at, depth}
+use Rattle.session_rights.specs.Rights.{zeroOne}
 use Rattle.session_marks.specs.Marks.{marked, tidy, slotFrom}
 use Rattle.reuse.proofs.Lists.{clash, by-test, both, remove-absent, mem-reverse, mem-head, mem-tail}
 use Rattle.reuse.proofs.Distinct.{distinct-head, distinct-tail}
@@ -56,6 +57,13 @@ row-held (bare r) zero n = absurd (n refl)
 row-held (bare r) (suc i) n = row-held r i n
 row-held (kept x r) zero n = refl
 row-held (kept x r) (suc i) n = row-held r i n
+
+-- its marks are 0 or 1
+pub row-zero-one : {ms xs : List ℕ} → Row ms xs → zeroOne ms ≡ true
+unfolding zeroOne
+row-zero-one none = refl
+row-zero-one (bare r) = row-zero-one r
+row-zero-one (kept x r) = row-zero-one r
 
 -- the number of marks is that of the marked slots
 pub row-count : {ms xs : List ℕ} → Row ms xs → length (marked ms xs) ≡ sum ms

@@ -3,5 +3,5 @@ pub mod Ups
 pub mod Changing
 pub mod Marking
 mod Spreads
-mod Downs
+pub mod Downs
 mod Fronts

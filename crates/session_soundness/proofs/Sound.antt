@@ -1,55 +1,35 @@
--- The test of a session's fields as named facts: sound rows, true sums over them, and reads within the limit.
+-- The test of a session's fields as named facts: sound rows, and reads within the limit.
 use Prim.Native.Nat.{ℕ, _+_, _-_, _≤_}
-use mathlib.Core.Path.{_≡_, sym, ap, _∙_}
+use mathlib.Core.Path.{_≡_, sym, _∙_}
 use mathlib.Core.List.{List}
-use mathlib.Core.Bool.{true, false}
+use mathlib.Core.Bool.{true, false, _&&_, and-false}
 use native.Mathlib.Omega.{arith}
-use lib.ListN.{length, take, drop, getD}
-use lib.Seq.{length-take-le}
+use lib.ListN.{length, take, drop}
 use borrow.Author.Tests.{eq-eqb, eqb-true, leb-true, le-leb}
 use Rattle.reuse.specs.Lists.{mem, distinct, sum}
-use Rattle.reuse.specs.Limits.{maxReads, maxExtents, slotCount, sumCount, levels}
-use Rattle.session_sums.specs.Sums.{sumsOf, marksIn}
-use Rattle.session_marks.specs.Marks.{marked, paired}
+use Rattle.reuse.specs.Limits.{maxReads, maxExtents, slotCount, rightCount, levels}
+use Rattle.session_rights.specs.Rights.{marksFrom, inTotals, rightly}
+use Rattle.session_rights.proofs.Totals.{totals-length}
+use Rattle.session_marks.specs.Marks.{marked}
 use Rattle.session_soundness.specs.Soundness.{extentsIn, stackIn, firstIn, soundRows, intactRows, Wide}
 use Rattle.reuse.proofs.Lists.{by-test, both, mem-reverse}
 use Rattle.reuse.proofs.Distinct.{distinct-reverse}
 use Rattle.reuse.proofs.Sizes.{all-in, all-same}
 use Rattle.reuse.proofs.Counts.{sum-split}
-use Rattle.session_sums.proofs.Tests.{same-of, same-eq}
-use Rattle.session_sums.proofs.Tree.{full, root-of}
 use Rattle.session_soundness.proofs.Tests.{blank-sum, sum-blank}
-use Rattle.session_marks.proofs.Marks.{row-tidy, tidy-row}
+use Rattle.session_marks.proofs.Marks.{row-tidy, tidy-row, row-zero-one}
 use Rattle.session_marks.proofs.Rows.{Rows}
-use Rattle.session_marks.proofs.Search.{pair-of}
 
--- the rows are sound, and the sums are true
-pub record Kept (reads : ℕ) (first hist slots sums : List ℕ) (next : ℕ) : Type 0 where
-  pub rows : Rows slotCount maxExtents (marksIn sums) slots first hist next reads
-  pub tree : sums ≡ sumsOf levels (marksIn sums)
-
--- what the test says
-pub record Sound (reads : ℕ) (first hist slots sums : List ℕ) (next : ℕ) : Type 0 where
-  pub kept : Kept reads first hist slots sums next
+-- what the test says: the rows are sound, and the reads within the limit
+pub record Sound (reads : ℕ) (first hist slots marks : List ℕ) (next : ℕ) : Type 0 where
+  pub rows : Rows slotCount maxExtents marks slots first hist next reads
   pub short : reads ≤ maxReads
 
--- the sum over all marks
-abbrev pub root : List ℕ → ℕ
-root sums = getD sums (sumCount - 1) 0
-
--- under true sums it is v
-pub root-extents : (sums : List ℕ) → length (marksIn sums) ≡ slotCount → sums ≡ sumsOf levels (marksIn sums) → root sums ≡ extentsIn sums
-root-extents sums w t =
-    ap (λ (l : List ℕ). getD l (slotCount + slotCount - 2) 0) t
-    ∙ ap (λ (n : ℕ). getD (sumsOf levels (marksIn sums)) (n + n - 2) 0) (sym full)
-    ∙ root-of levels (marksIn sums) (w ∙ sym full)
-
-module _ (reads : ℕ) (first hist slots sums : List ℕ) (next : ℕ) where
+module _ (reads : ℕ) (first hist slots marks : List ℕ) (next : ℕ) where
   -- the test gives the facts
-  pub true-sound : Wide first hist slots sums → soundRows reads first hist slots sums next ≡ true → Sound reads first hist slots sums next
+  pub true-sound : Wide first hist slots marks → soundRows reads first hist slots marks next ≡ true → Sound reads first hist slots marks next
   unfolding soundRows
   true-sound w h =
-      let wide : length (marksIn sums) ≡ slotCount = length-take-le slotCount sums (omega (arith, w .sums-wide)) in
       let h₁ = both _ _ h in
       let h₂ = both _ _ (h₁ .0) in
       let h₃ = both _ _ (h₂ .0) in
@@ -61,77 +41,101 @@ module _ (reads : ℕ) (first hist slots sums : List ℕ) (next : ℕ) where
       let h₉ = both _ _ (h₈ .0) in
       let h₁₀ = both _ _ (h₉ .0) in
       let h₁₁ = both _ _ (h₁₀ .0) in
-      let h₁₂ = both _ _ (h₁₁ .0) in
-      let ms = marked (marksIn sums) slots in
+      let ms = marked marks slots in
       record {
-        kept = record {
-          rows = record {
-            row = tidy-row (marksIn sums) slots (w .slots-wide ∙ sym wide) (h₉ .1);
-            wide = wide;
-            low = leb-true _ _ (h₁₁ .1);
-            free = blank-sum _ (h₁₂ .1);
-            apart = sym (distinct-reverse ms) ∙ h₁₀ .1;
-            few = leb-true _ _ (h₁₂ .0);
-            first-wide = w .first-wide;
-            first-apart = h₈ .1;
-            listed = λ y. all-same _ _ (h₇ .1) (h₆ .1) y ∙ mem-reverse y ms;
-            first-rest = blank-sum _ (h₅ .1);
-            hist-wide = w .hist-wide;
-            hist-rest = blank-sum _ (h₃ .1);
-            total = eqb-true _ _ (h₂ .1);
-          };
-          tree = same-eq _ _ (h₄ .1);
+        rows = record {
+          row = tidy-row marks slots (w .slots-wide ∙ sym (w .marks-wide)) (h₈ .1);
+          wide = w .marks-wide;
+          low = leb-true _ _ (h₁₀ .1);
+          free = blank-sum _ (h₁₁ .1);
+          apart = sym (distinct-reverse ms) ∙ h₉ .1;
+          few = leb-true _ _ (h₁₁ .0);
+          first-wide = w .first-wide;
+          first-apart = h₇ .1;
+          listed = λ y. all-same _ _ (h₆ .1) (h₅ .1) y ∙ mem-reverse y ms;
+          first-rest = blank-sum _ (h₄ .1);
+          hist-wide = w .hist-wide;
+          hist-rest = blank-sum _ (h₃ .1);
+          total = eqb-true _ _ (h₂ .1);
         };
         short = leb-true _ _ (h₁ .1);
       }
 
   -- fields that break a fact are not sound
-  pub unsound : Wide first hist slots sums → (Sound reads first hist slots sums next → ⊥) → soundRows reads first hist slots sums next ≡ false
-  unsound w h = by-test (soundRows reads first hist slots sums next) (λ t. absurd (h (true-sound w t))) (λ f. f)
+  pub unsound : Wide first hist slots marks → (Sound reads first hist slots marks next → ⊥) → soundRows reads first hist slots marks next ≡ false
+  unsound w h = by-test (soundRows reads first hist slots marks next) (λ t. absurd (h (true-sound w t))) (λ f. f)
 
-  -- the test of the widths too, where they are a session's
-  pub intact-wide : Wide first hist slots sums → intactRows reads first hist slots sums next ≡ soundRows reads first hist slots sums next
-  unfolding intactRows
-  intact-wide w =
-      simp (
-        eq-eqb (length first) maxExtents (w .first-wide),
-        eq-eqb (length hist) maxExtents (w .hist-wide),
-        pair-of slots sums (w .slots-wide) (w .sums-wide),
-      )
-
-  module _ (k : Kept reads first hist slots sums next) where
-    -- the root is v
-    pub kept-root : root sums ≡ extentsIn sums
-    kept-root = root-extents sums (k .rows .wide) (k .tree)
-
+  -- sound rows pass
+  module _ (k : Rows slotCount maxExtents marks slots first hist next reads) where
     -- the stack has no extent twice
-    pub kept-apart : distinct (stackIn slots sums) ≡ true
-    kept-apart = distinct-reverse (marked (marksIn sums) slots) ∙ k .rows .apart
+    pub kept-apart : distinct (stackIn slots marks) ≡ true
+    kept-apart = distinct-reverse (marked marks slots) ∙ k .apart
 
     -- the stack has the extents of F
-    pub kept-listed : (y : ℕ) → mem y (firstIn first sums) ≡ mem y (stackIn slots sums)
-    kept-listed y = k .rows .listed y ∙ sym (mem-reverse y (marked (marksIn sums) slots))
+    pub kept-listed : (y : ℕ) → mem y (firstIn first marks) ≡ mem y (stackIn slots marks)
+    kept-listed y = k .listed y ∙ sym (mem-reverse y (marked marks slots))
 
     -- H adds up to the reads that are not cold
-    pub hist-total : extentsIn sums + sum (take (extentsIn sums) hist) ≡ reads
-    hist-total = omega (arith, sum-split (extentsIn sums) hist, k .rows .hist-rest, k .rows .total)
+    pub hist-total : extentsIn marks + sum (take (extentsIn marks) hist) ≡ reads
+    hist-total = omega (arith, sum-split (extentsIn marks) hist, k .hist-rest, k .total)
 
     -- the facts pass the test
-    pub kept-sound : reads ≤ maxReads → soundRows reads first hist slots sums next ≡ true
+    pub kept-sound : reads ≤ maxReads → soundRows reads first hist slots marks next ≡ true
     unfolding soundRows
     kept-sound short =
         simp (
-          le-leb (extentsIn sums) maxExtents (k .rows .few),
-          sum-blank (drop next (marksIn sums)) (k .rows .free),
-          le-leb next slotCount (k .rows .low),
+          le-leb (extentsIn marks) maxExtents (k .few),
+          sum-blank (drop next marks) (k .free),
+          le-leb next slotCount (k .low),
           kept-apart,
-          row-tidy (k .rows .row),
-          k .rows .first-apart,
-          all-in (firstIn first sums) (stackIn slots sums) (λ y m. sym (kept-listed y) ∙ m),
-          all-in (stackIn slots sums) (firstIn first sums) (λ y m. kept-listed y ∙ m),
-          sum-blank (drop (extentsIn sums) first) (k .rows .first-rest),
-          same-of (k .tree),
-          sum-blank (drop (extentsIn sums) hist) (k .rows .hist-rest),
-          eq-eqb reads (extentsIn sums + sum hist) (k .rows .total),
+          row-tidy (k .row),
+          k .first-apart,
+          all-in (firstIn first marks) (stackIn slots marks) (λ y m. sym (kept-listed y) ∙ m),
+          all-in (stackIn slots marks) (firstIn first marks) (λ y m. kept-listed y ∙ m),
+          sum-blank (drop (extentsIn marks) first) (k .first-rest),
+          sum-blank (drop (extentsIn marks) hist) (k .hist-rest),
+          eq-eqb reads (extentsIn marks + sum hist) (k .total),
           le-leb reads maxReads short,
         )
+
+-- the widths of a session's rows, by its right-hand sums
+pub record Kept (first hist slots rights : List ℕ) : Type 0 where
+  pub first-wide : length first ≡ maxExtents
+  pub hist-wide : length hist ≡ maxExtents
+  pub slots-wide : length slots ≡ slotCount
+  pub rights-wide : length rights ≡ rightCount
+
+module _ (first hist slots : List ℕ) (count : ℕ) (rights : List ℕ) (k : Kept first hist slots rights) where
+  -- the marks worked out are as many as the slots
+  pub worked-wide : length (marksFrom levels count rights) ≡ slotCount
+  worked-wide = totals-length levels count rights (omega (arith, k .rights-wide))
+
+  -- so the rows have their widths
+  pub kept-wide : Wide first hist slots (marksFrom levels count rights)
+  kept-wide = record { first-wide = k .first-wide; hist-wide = k .hist-wide; slots-wide = k .slots-wide; marks-wide = worked-wide }
+
+  -- the test of the widths too, where they are a session's
+  pub intact-wide : (reads next : ℕ) → intactRows reads first hist slots count rights next
+      ≡ rightly levels count rights && soundRows reads first hist slots (marksFrom levels count rights) next
+  unfolding intactRows
+  intact-wide reads next =
+      simp (
+        eq-eqb (length first) maxExtents (k .first-wide),
+        eq-eqb (length hist) maxExtents (k .hist-wide),
+        eq-eqb (length slots) slotCount (k .slots-wide),
+        eq-eqb (length rights) rightCount (k .rights-wide),
+      )
+
+  -- a right-hand sum above its point's total
+  pub intact-above : (reads next : ℕ) → inTotals levels count rights ≡ false → intactRows reads first hist slots count rights next ≡ false
+  intact-above reads next f = intact-wide reads next ∙ unfold rightly in simp f
+
+  -- with none above, the rows decide: marks beside tidy slots are 0 or 1
+  pub intact-within : (reads next : ℕ) → inTotals levels count rights ≡ true
+      → intactRows reads first hist slots count rights next ≡ soundRows reads first hist slots (marksFrom levels count rights) next
+  intact-within reads next t =
+      intact-wide reads next ∙
+      by-test (soundRows reads first hist slots (marksFrom levels count rights) next)
+      (λ ok. let r = true-sound reads first hist slots (marksFrom levels count rights) next kept-wide ok .rows .row in
+      unfold rightly in simp (t, row-zero-one r, ok))
+      (λ bad. simp (bad, and-false))

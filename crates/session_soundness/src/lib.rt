@@ -1,27 +1,24 @@
 // Whether a session's fields are sound.
 ghost use mathlib.Core.Path.{_≡_};
 ghost use lib.ListN.{length};
-ghost use Rattle.reuse.specs.Limits.{slotCount, sumCount};
-ghost use Rattle.session_sums.specs.Sums.{marksIn};
+ghost use Rattle.reuse.specs.Lists.{sum};
+ghost use Rattle.reuse.specs.Limits.{slotCount};
 ghost use Rattle.session_marks.specs.Marks.{tidy};
 ghost use Rattle.session_soundness.specs.Soundness.{Wide, marksHold, soundRows, intactRows};
 use reuse::MAX_EXTENTS;
 use reuse::MAX_READS;
+use reuse::RIGHTS;
 use reuse::SLOTS;
-use reuse::SUMS;
 
-// The place of the sum over all marks.
-const ROOT: usize = SUMS - 1;
-
-// Whether each leaf is 0 or 1, and each slot without a mark 0.
-fn neat<'a>(slots: &'a [u32], sums: &'a [u32]) -> bool
-    requires { ⌜ (length (now slots) ≡ slotCount) × (length (now sums) ≡ sumCount) ⌝ }
-    ensures { λ r. ⌜ r ≡ tidy (marksIn (now (sums .entry))) (now (slots .entry)) ⌝ }
+// Whether each mark is 0 or 1, and each slot without a mark 0.
+fn neat<'a>(slots: &'a [u32], marks: &'a [u32]) -> bool
+    requires { ⌜ (length (now slots) ≡ slotCount) × (length (now marks) ≡ slotCount) ⌝ }
+    ensures { λ r. ⌜ r ≡ tidy (now (marks .entry)) (now (slots .entry)) ⌝ }
 {
     let mut good = true;
     let mut i: usize = 0;
     while i < SLOTS {
-        let mark = sums[i];
+        let mark = marks[i];
         let x = slots[i];
         if mark != 1 {
             if mark != 0 {
@@ -35,46 +32,44 @@ fn neat<'a>(slots: &'a [u32], sums: &'a [u32]) -> bool
     good
 }
 
-// The part of the test that is of the marks: below next, tidy, and summed.
-fn marks_hold<'a>(slots: &'a [u32], sums: &'a [u32], next: usize) -> bool
-    requires { ⌜ (length (now slots) ≡ slotCount) × (length (now sums) ≡ sumCount) ⌝ }
-    ensures { λ r. ⌜ r ≡ marksHold (now (slots .entry)) (now (sums .entry)) next ⌝ }
+// The part of the test that is of the marks: below next, and tidy.
+fn marks_hold<'a>(slots: &'a [u32], marks: &'a [u32], next: usize) -> bool
+    requires { ⌜ (length (now slots) ≡ slotCount) × (length (now marks) ≡ slotCount) ⌝ }
+    ensures { λ r. ⌜ r ≡ marksHold (now (slots .entry)) (now (marks .entry)) next ⌝ }
 {
     if SLOTS < next {
         return false;
     }
-    if !neat(slots, sums) {
+    if !neat(slots, marks) {
         return false;
     }
-    if !reuse_rows::all_zero(&sums[next..SLOTS]) {
-        return false;
-    }
-    session_sums::true_sums(sums)
+    reuse_rows::all_zero(&marks[next..])
 }
 
-// The test of rows of the right length: the marks, the counts, and the same extents in the slots and in F.
+// The test of rows of the right length: the marks, of which there are as many as the count, the other counts, and the same
+// extents in the slots and in F.
 fn rows_hold<'a>(
     first: &'a [u32],
     hist: &'a [u32],
     slots: &'a [u32],
-    sums: &'a [u32],
+    marks: &'a [u32],
+    count: u32,
     next: usize,
     reads: u32,
 ) -> bool
-    requires { ⌜ Wide (now first) (now hist) (now slots) (now sums) ⌝ }
-    ensures { λ r. ⌜ r ≡ soundRows reads (now (first .entry)) (now (hist .entry)) (now (slots .entry)) (now (sums .entry)) next ⌝ }
+    requires { ⌜ Wide (now first) (now hist) (now slots) (now marks) × (sum (now marks) ≡ count) ⌝ }
+    ensures { λ r. ⌜ r ≡ soundRows reads (now (first .entry)) (now (hist .entry)) (now (slots .entry)) (now (marks .entry)) next ⌝ }
 {
     if MAX_READS < reads {
         return false;
     }
-    if !marks_hold(slots, sums, next) {
+    if !marks_hold(slots, marks, next) {
         return false;
     }
-    let root = sums[ROOT];
-    if root > MAX_EXTENTS as u32 {
+    if count > MAX_EXTENTS as u32 {
         return false;
     }
-    let v = root as usize;
+    let v = count as usize;
     if !reuse_rows::all_zero(&first[v..]) {
         return false;
     }
@@ -87,20 +82,22 @@ fn rows_hold<'a>(
     if !reuse_tables::all_distinct(&first[..v]) {
         return false;
     }
-    let marked = session_marks::gather(slots, sums);
+    let marked = session_marks::gather(slots, marks);
     reuse_tables::all_in(&first[..v], &marked[..v])
 }
 
-// Whether the rows are as long as a session's and sound.
+// Whether the rows are as long as a session's and sound: the marks are worked out from the count and the right-hand sums,
+// and all else is tested beside them.
 pub fn intact<'a>(
     first: &'a [u32],
     hist: &'a [u32],
     slots: &'a [u32],
-    sums: &'a [u32],
+    count: u32,
+    rights: &'a [u32],
     next: usize,
     reads: u32,
 ) -> bool
-    ensures { λ r. ⌜ r ≡ intactRows reads (now (first .entry)) (now (hist .entry)) (now (slots .entry)) (now (sums .entry)) next ⌝ }
+    ensures { λ r. ⌜ r ≡ intactRows reads (now (first .entry)) (now (hist .entry)) (now (slots .entry)) count (now (rights .entry)) next ⌝ }
 {
     if first.len() != MAX_EXTENTS {
         return false;
@@ -111,8 +108,12 @@ pub fn intact<'a>(
     if slots.len() != SLOTS {
         return false;
     }
-    if sums.len() != SUMS {
+    if rights.len() != RIGHTS {
         return false;
     }
-    rows_hold(first, hist, slots, sums, next, reads)
+    let worked = session_points::work_out(count, rights);
+    if !worked.within {
+        return false;
+    }
+    rows_hold(first, hist, slots, &worked.marks, count, next, reads)
 }

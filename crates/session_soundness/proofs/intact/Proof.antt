@@ -1,20 +1,41 @@
--- `session_soundness::intact` meets its contract. A row of another width is not sound; the others are tested.
-use mathlib.Core.Path.{_≡_, sym, _∙_}
-use borrow.Author.Tests.{eq-eqb, ne-eqb}
-use Rattle.reuse.specs.Limits.{maxExtents, slotCount, sumCount}
-use Rattle.session_marks.specs.Marks.{paired}
-use Rattle.session_soundness.specs.Soundness.{intactRows, Wide}
-use Rattle.session_soundness.proofs.Sound.{intact-wide}
+-- `session_soundness::intact` meets its contract. A row of another width is not sound, nor is a right-hand sum above its point's total; the others are tested.
+use mathlib.Core.Path.{_≡_, sym, ap, _∙_}
+use mathlib.Core.Bool.{true, false}
+use mathlib.Core.List.{List}
+use Prim.Native.Nat.{ℕ}
+use native.Mathlib.Omega.{arith}
+use borrow.Author.Tests.{eq-eqb, ne-eqb, not-true, not-false}
+use Rattle.reuse.specs.Lists.{sum}
+use Rattle.reuse.specs.Limits.{maxExtents, slotCount, rightCount, levels}
+use Rattle.session_rights.specs.Rights.{marksFrom, inTotals}
+use Rattle.session_points.specs.declared.Worked.{Worked}
+use Rattle.session_soundness.specs.Soundness.{soundRows, intactRows, Wide}
+use Rattle.session_rights.proofs.Rights.{worked-out}
+use Rattle.session_points.proofs.Downs.{worked-some}
+use Rattle.session_soundness.proofs.Sound.{Kept, kept-wide, intact-above, intact-within}
+use borrow.Author.Needs.{needs}
 use Rattle.session_soundness.proofs.intact.Statement.{statement}
 use Rattle.session_soundness.proofs.intact.Tie as tie
+use Rattle.session_soundness.proofs.intact.Reads as reads
+use Rattle.session_soundness.proofs.intact.Lts as lts
+use Rattle.session_points.proofs.work_out.Reads as work-out-reads
+use Rattle.session_soundness.proofs.rows_hold.Reads as rows-hold-reads
 
 -- the start, from the place after the widths' tests
 abbrev start : tie.Else4 → tie.Start
 start c = c .before .before .before .before .before .before .before .before
 
 -- the widths of the rows
-wide : (c : tie.Else4) → Wide (start c .args .first .now) (start c .args .hist .now) (start c .args .slots .now) (start c .args .sums .now)
-wide c = record { first-wide = c .before .before .before .if1 .left; hist-wide = c .before .before .if2 .left; slots-wide = c .before .if3 .left; sums-wide = c .if4 .left }
+kept : (c : tie.Else4) → Kept (start c .args .first .now) (start c .args .hist .now) (start c .args .slots .now) (start c .args .rights .now)
+kept c = record { first-wide = c .before .before .before .if1 .left; hist-wide = c .before .before .if2 .left; slots-wide = c .before .if3 .left; rights-wide = c .if4 .left }
+
+-- what was worked out
+told : (c : tie.After-work-out)
+    → let a = start (c .before) .args in
+    (c .work-out .result .within ≡ inTotals levels (a .count) (a .rights .now)) × (c .work-out .result .marks ≡ marksFrom levels (a .count) (a .rights .now))
+told c =
+    let e = c .work-out .ensures ∙ worked-some _ _ (kept (c .before) .rights-wide) in
+    (ap (λ (w : Worked). w .within) e, ap (λ (w : Worked). w .marks) e)
 
 returns : tie.Need-returns
 unfolding intactRows
@@ -25,19 +46,44 @@ unfolding intactRows
 returns-2 c = sym (simp (eq-eqb _ maxExtents (c .before .if1 .left), ne-eqb _ maxExtents (c .if2 .taken)))
 
 returns-3 : tie.Need-returns-3
-unfolding intactRows paired
+unfolding intactRows
 returns-3 c = sym (simp (eq-eqb _ maxExtents (c .before .before .if1 .left), eq-eqb _ maxExtents (c .before .if2 .left), ne-eqb _ slotCount (c .if3 .taken)))
 
 returns-4 : tie.Need-returns-4
-unfolding intactRows paired
-returns-4 c = sym (simp (eq-eqb _ maxExtents (c .before .before .before .if1 .left), eq-eqb _ maxExtents (c .before .before .if2 .left), eq-eqb _ slotCount (c .before .if3 .left), ne-eqb _ sumCount (c .if4 .taken)))
+unfolding intactRows
+returns-4 c = sym (simp (eq-eqb _ maxExtents (c .before .before .before .if1 .left), eq-eqb _ maxExtents (c .before .before .if2 .left), eq-eqb _ slotCount (c .before .if3 .left), ne-eqb _ rightCount (c .if4 .taken)))
 
-rows-hold-requires : tie.Need-rows-hold-requires
-rows-hold-requires c κs = wide c
+work-out-requires : tie.Need-work-out-requires
+work-out-requires c κs = search needs
 
 returns-5 : tie.Need-returns-5
-returns-5 c = c .rows-hold .ensures ∙ sym (intact-wide _ _ _ _ _ _ (wide (c .before)))
+returns-5 c = sym (intact-above _ _ _ _ _ (kept (c .before .before)) _ _ (sym (told (c .before) .0) ∙ not-true _ (c .if5 .taken)))
+
+rows-hold-requires : tie.Need-rows-hold-requires
+rows-hold-requires c κs =
+    let w = c .before .before .before .before in
+    let k = kept (w .before) in
+    let n = sym (told w .0) ∙ not-false _ (c .before .before .before .if5 .left) in
+    (rw (told w .1) (kept-wide _ _ _ _ _ k), ap sum (told w .1) ∙ worked-out levels _ _ (omega (arith, k .rights-wide)) n .counted)
+
+returns-6 : tie.Need-returns-6
+returns-6 c =
+    let w = c .before .before .before .before .before in
+    let a = start (w .before) .args in
+    let n = sym (told w .0) ∙ not-false _ (c .before .before .before .before .if5 .left) in
+    c .rows-hold .ensures
+    ∙ ap (λ (l : List ℕ). soundRows (a .reads) (a .first .now) (a .hist .now) (a .slots .now) l (a .next)) (told w .1)
+    ∙ sym (intact-within _ _ _ _ _ (kept (w .before)) _ _ n)
 
 pub intact-spec : {M : Type 1} → statement M
 intact-spec =
-    tie.close (tie.spec returns returns-2 returns-3 returns-4 rows-hold-requires returns-5)
+    tie.close
+    (tie.spec
+    returns
+    returns-2
+    returns-3
+    returns-4
+    work-out-requires
+    returns-5
+    rows-hold-requires
+    returns-6)

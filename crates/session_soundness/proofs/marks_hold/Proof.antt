@@ -1,34 +1,16 @@
 -- `session_soundness::marks_hold` meets its contract. Each return is one test of `marksHold`.
 use mathlib.Core.Path.{_≡_, sym, ap, _∙_}
-use mathlib.Core.Bool.{true}
 use borrow.Author.Tests.{not-true, not-false, le-leb, lt-leb}
-use lib.Dec.{leb}
-use lib.ListN.{drop}
-use Rattle.reuse.specs.Limits.{slotCount}
 use Rattle.reuse_rows.specs.Rows.{blank}
-use Rattle.session_sums.specs.Sums.{marksIn}
-use Rattle.session_marks.specs.Marks.{tidy}
 use Rattle.session_soundness.specs.Soundness.{marksHold}
-use Rattle.session_soundness.proofs.Passes.{part-run}
+use Rattle.reuse_rows.proofs.Slices.{part-rest}
 use borrow.Author.Needs.{needs}
 use Rattle.session_soundness.proofs.marks_hold.Statement.{statement}
 use Rattle.session_soundness.proofs.marks_hold.Tie as tie
-
--- the start, from the place after the test of the free slots
-abbrev start : tie.After-all-zero → tie.Start
-start c = c .before .before .before .before .before .before .before
-
--- the marks from next on, as they were tested
-free : (c : tie.After-all-zero) → c .all-zero .result ≡ blank (drop (start c .args .next) (marksIn (start c .args .sums .now)))
-free c = c .all-zero .ensures ∙ ap blank (part-run (start c .args .next) slotCount (start c .args .sums .now) (c .before .before .before .before .if1 .left))
-
--- next is at most the number of slots
-low : (c : tie.After-all-zero) → leb (start c .args .next) slotCount ≡ true
-low c = le-leb _ _ (c .before .before .before .before .if1 .left)
-
--- the slots are tidy
-kept : (c : tie.After-all-zero) → tidy (marksIn (start c .args .sums .now)) (start c .args .slots .now) ≡ true
-kept c = sym (c .before .before .before .neat .ensures) ∙ not-false _ (c .before .before .if2 .left)
+use Rattle.session_soundness.proofs.marks_hold.Reads as reads
+use Rattle.session_soundness.proofs.marks_hold.Lts as lts
+use Rattle.reuse_rows.proofs.all_zero.Reads as all-zero-reads
+use Rattle.session_soundness.proofs.neat.Reads as neat-reads
 
 returns : tie.Need-returns
 unfolding marksHold
@@ -44,6 +26,9 @@ returns-2 c = sym (simp (le-leb _ _ (c .before .before .if1 .left), sym (c .befo
 mul-all-zero : tie.Need-mul-all-zero
 mul-all-zero c = search needs
 
+sub-all-zero : tie.Need-sub-all-zero
+sub-all-zero c = search needs
+
 part-all-zero-start : tie.Need-part-all-zero-start
 part-all-zero-start c = search needs
 
@@ -55,16 +40,11 @@ all-zero-requires c κs = search needs
 
 returns-3 : tie.Need-returns-3
 unfolding marksHold
-returns-3 c = sym (simp (low (c .before), kept (c .before), sym (free (c .before)) ∙ not-true _ (c .if3 .taken)))
-
-true-sums-requires : tie.Need-true-sums-requires
-true-sums-requires c κs = search needs
-
-returns-4 : tie.Need-returns-4
-unfolding marksHold
-returns-4 c =
-    let z = c .before .before in
-    c .true-sums .ensures ∙ sym (simp (low z, kept z, sym (free z) ∙ not-false _ (c .before .if3 .left)))
+returns-3 c =
+    let e = c .before .before in
+    let a = e .before .before .before .before .before .args in
+    c .all-zero .ensures ∙ ap blank (part-rest (a .marks .now) (a .next))
+    ∙ sym (simp (le-leb _ _ (e .before .before .if1 .left), sym (e .before .neat .ensures) ∙ not-false _ (e .if2 .left)))
 
 pub marks-hold-spec : {M : Type 1} → statement M
 marks-hold-spec =
@@ -74,9 +54,8 @@ marks-hold-spec =
     neat-requires
     returns-2
     mul-all-zero
+    sub-all-zero
     part-all-zero-start
     part-all-zero-end
     all-zero-requires
-    returns-3
-    true-sums-requires
-    returns-4)
+    returns-3)

@@ -4,10 +4,9 @@ use mathlib.Core.List.{List}
 use mathlib.Core.Logic.{⊎-elim}
 use Prim.Native.Nat.{ℕ, _-_, _≤_}
 use native.Mathlib.Omega.{arith}
-use lib.ListN.{drop}
-use lib.Seq.{slice-empty}
+use lib.ListN.{drop, drop-of-length-le}
+
 use Rattle.reuse.specs.Limits.{slotCount}
-use Rattle.session_sums.specs.Sums.{marksIn}
 use Rattle.session_marks.specs.Marks.{tidy}
 use Rattle.reuse_rows.proofs.Slices.{Passing, passed, failed, ended}
 use Rattle.session_soundness.proofs.Passes.{tidy-large, tidy-stray, tidy-bare, tidy-kept}
@@ -15,10 +14,10 @@ use Rattle.session_soundness.proofs.neat.Statement.{statement}
 use Rattle.session_soundness.proofs.neat.Tie as tie
 
 abbrev Inv-loop : tie.InvT-loop
-Inv-loop slots sums good₀ i₀ good i = (i ≤ slotCount) × Passing good (tidy (drop i (marksIn sums)) (drop i slots)) (tidy (marksIn sums) slots)
+Inv-loop slots marks good₀ i₀ good i = (i ≤ slotCount) × Passing good (tidy (drop i marks) (drop i slots)) (tidy marks slots)
 
 abbrev μ-loop : tie.MeasureT-loop
-μ-loop slots sums good₀ i₀ good i = slotCount - i
+μ-loop slots marks good₀ i₀ good i = slotCount - i
 
 loop-holds : tie.Need-loop-holds Inv-loop μ-loop
 loop-holds c = (omega arith, refl)
@@ -47,12 +46,12 @@ loop-again c =
     let l = c .before .before .before .before .loop in (
       omega arith,
       ⊎-elim
-          (λ w. rw (w .2) (failed (l .good) (l .inv .1) (tidy-large slotCount (a .sums .now) (a .slots .now) (l .i) (omega arith) (omega arith) (omega arith) (w .0 .taken) (w .1 .taken))))
+          (λ w. rw (w .2) (failed (l .good) (l .inv .1) (tidy-large slotCount (a .marks .now) (a .slots .now) (l .i) (omega arith) (omega arith) (omega arith) (w .0 .taken) (w .1 .taken))))
           (⊎-elim
-          (λ w. rw (w .3) (failed (l .good) (l .inv .1) (tidy-stray slotCount (a .sums .now) (a .slots .now) (l .i) (omega arith) (omega arith) (omega arith) (w .1 .left) (w .2 .taken))))
+          (λ w. rw (w .3) (failed (l .good) (l .inv .1) (tidy-stray slotCount (a .marks .now) (a .slots .now) (l .i) (omega arith) (omega arith) (omega arith) (w .1 .left) (w .2 .taken))))
           (⊎-elim
-          (λ w. rw (w .3) (passed (l .good) (l .inv .1) (tidy-bare slotCount (a .sums .now) (a .slots .now) (l .i) (omega arith) (omega arith) (omega arith) (w .1 .left) (w .2 .left))))
-          (λ w. rw (w .1) (passed (l .good) (l .inv .1) (tidy-kept slotCount (a .sums .now) (a .slots .now) (l .i) (omega arith) (omega arith) (omega arith) (w .0 .left))))))
+          (λ w. rw (w .3) (passed (l .good) (l .inv .1) (tidy-bare slotCount (a .marks .now) (a .slots .now) (l .i) (omega arith) (omega arith) (omega arith) (w .1 .left) (w .2 .left))))
+          (λ w. rw (w .1) (passed (l .good) (l .inv .1) (tidy-kept slotCount (a .marks .now) (a .slots .now) (l .i) (omega arith) (omega arith) (omega arith) (w .0 .left))))))
           (c .if1 .came),
     )
 
@@ -62,8 +61,8 @@ returns c =
     let a = c .before .before .args in
     let z : c .before .loop .i ≡ slotCount = omega arith in
     ended (c .before .loop .good) (c .before .loop .inv .1)
-    (ap (λ (k : ℕ). tidy (drop k (marksIn (a .sums .now))) (drop k (a .slots .now))) z
-    ∙ ap (λ (l : List ℕ). tidy l (drop slotCount (a .slots .now))) (slice-empty slotCount (a .sums .now)))
+    (ap (λ (k : ℕ). tidy (drop k (a .marks .now)) (drop k (a .slots .now))) z
+    ∙ ap (λ (l : List ℕ). tidy l (drop slotCount (a .slots .now))) (drop-of-length-le (a .marks .now) {i = slotCount} (omega arith)))
 
 pub neat-spec : {M : Type 1} → statement M
 neat-spec =
