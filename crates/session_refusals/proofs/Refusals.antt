@@ -6,70 +6,61 @@ use mathlib.Core.Bool.{true, false}
 use native.Mathlib.Omega.{arith}
 use lib.ListN.{length}
 use lib.Seq.{take-all}
-use borrow.Author.Tests.{eqb-true, eq-eqb, ne-eqb}
-use Rattle.reuse.specs.Limits.{maxReads, maxExtents}
+use borrow.Author.Tests.{eq-eqb, ne-eqb}
+use Rattle.reuse.specs.Limits.{maxReads, maxExtents, levels}
+use Rattle.session_rights.specs.Rights.{marksFrom}
 use Rattle.reuse.specs.Lists.{mem}
-use Rattle.session_soundness.specs.Soundness.{extentsIn, stackIn, intactRows, Wide}
+use Rattle.session_soundness.specs.Soundness.{extentsIn, stackIn, intactRows}
 use Rattle.session_refusals.specs.Refusals.{overfull, refusalOf}
-use Rattle.reuse.proofs.Lists.{by-test, both}
-use Rattle.session_marks.proofs.Search.{pair-wide}
-use Rattle.session_soundness.proofs.Sound.{Sound, root, true-sound, intact-wide, kept-root, kept-listed}
+use Rattle.reuse.proofs.Lists.{by-test}
+use Rattle.session_soundness.proofs.Sound.{Intact, true-intact, kept-listed}
 
-module _ (reads : ℕ) (first hist slots sums : List ℕ) (next : ℕ) where
-  -- fields that pass the test are as wide as a session's
-  pub intact-fields : intactRows reads first hist slots sums next ≡ true → Wide first hist slots sums
-  unfolding intactRows
-  intact-fields h =
-      let h₁ = both _ _ h in
-      let h₂ = both _ _ (h₁ .0) in
-      let h₃ = both _ _ (h₂ .0) in
-      let p = pair-wide slots sums (h₂ .1) in
-      record { first-wide = eqb-true _ _ (h₃ .0); hist-wide = eqb-true _ _ (h₃ .1); slots-wide = p .0; sums-wide = p .1 }
-
-  -- and sound
-  pub intact-sound : intactRows reads first hist slots sums next ≡ true → Sound reads first hist slots sums next
-  intact-sound h =
-      let w = intact-fields h in
-      true-sound reads first hist slots sums next w (sym (intact-wide reads first hist slots sums next w) ∙ h)
+module _ (reads : ℕ) (first hist slots : List ℕ) (count : ℕ) (rights : List ℕ) (next : ℕ) where
+  -- the marks worked out
+  abbrev marks : List ℕ
+  marks = marksFrom levels count rights
 
   -- fields that are not
-  pub refusal-unsound : (x : ℕ) → intactRows reads first hist slots sums next ≡ false → refusalOf reads first hist slots sums next x ≡ 7
+  pub refusal-unsound : (x : ℕ) → intactRows reads first hist slots count rights next ≡ false → refusalOf reads first hist slots count rights next x ≡ 7
   unfolding refusalOf
   refusal-unsound x e = rw e
 
-  module _ (ok : intactRows reads first hist slots sums next ≡ true) (x : ℕ) where
+  module _ (ok : intactRows reads first hist slots count rights next ≡ true) (x : ℕ) where
+    -- what the test says
+    facts : Intact reads first hist slots count rights next
+    facts = true-intact reads first hist slots count rights next ok
+
     -- where there are as many extents as the limit, F is all of its row, and has the extents of the stack
-    listed : root sums ≡ maxExtents → mem x first ≡ mem x (stackIn slots sums)
+    listed : count ≡ maxExtents → mem x first ≡ mem x (stackIn slots marks)
     listed v =
-        let k = intact-sound ok .kept in
-        let all : length first ≤ extentsIn sums = omega (arith, intact-fields ok .first-wide, kept-root reads first hist slots sums next k) in
-        sym (ap (mem x) (take-all (extentsIn sums) first all)) ∙ kept-listed reads first hist slots sums next k x
+        let all : length first ≤ extentsIn marks = omega (arith, facts .kept .first-wide, facts .given .counted) in
+        sym (ap (mem x) (take-all (extentsIn marks) first all)) ∙ kept-listed reads first hist slots marks next (facts .sound .rows) x
 
     -- a read too many
-    pub refusal-reads : reads ≡ maxReads → refusalOf reads first hist slots sums next x ≡ 8
+    pub refusal-reads : reads ≡ maxReads → refusalOf reads first hist slots count rights next x ≡ 8
     unfolding refusalOf
     refusal-reads e = rw (ok, eq-eqb reads maxReads e)
 
     module _ (n : reads ≡ maxReads → ⊥) where
       -- an extent too many
-      pub refusal-extents : root sums ≡ maxExtents → mem x first ≡ false → refusalOf reads first hist slots sums next x ≡ 9
+      pub refusal-extents : count ≡ maxExtents → mem x first ≡ false → refusalOf reads first hist slots count rights next x ≡ 9
       unfolding refusalOf overfull
       refusal-extents v f =
           rw (
             ok,
             ne-eqb reads maxReads n,
             sym (listed v) ∙ f,
-            eq-eqb (extentsIn sums) maxExtents (sym (kept-root reads first hist slots sums next (intact-sound ok .kept)) ∙ v),
+            eq-eqb (extentsIn marks) maxExtents (facts .given .counted ∙ v),
           )
 
       -- an extent that is known
-      pub refusal-known : root sums ≡ maxExtents → mem x first ≡ true → refusalOf reads first hist slots sums next x ≡ 0
+      pub refusal-known : count ≡ maxExtents → mem x first ≡ true → refusalOf reads first hist slots count rights next x ≡ 0
       unfolding refusalOf overfull
       refusal-known v t = rw (ok, ne-eqb reads maxReads n, sym (listed v) ∙ t)
 
       -- fewer extents than the limit
-      pub refusal-few : (root sums ≡ maxExtents → ⊥) → refusalOf reads first hist slots sums next x ≡ 0
+      pub refusal-few : (count ≡ maxExtents → ⊥) → refusalOf reads first hist slots count rights next x ≡ 0
       unfolding refusalOf overfull
       refusal-few v =
-          by-test (mem x (stackIn slots sums)) (λ t. rw (ok, ne-eqb reads maxReads n, t))
-          (λ f. rw (ok, ne-eqb reads maxReads n, f, ne-eqb (extentsIn sums) maxExtents (λ e. v (kept-root reads first hist slots sums next (intact-sound ok .kept) ∙ e))))
+          by-test (mem x (stackIn slots marks)) (λ t. rw (ok, ne-eqb reads maxReads n, t))
+          (λ f. rw (ok, ne-eqb reads maxReads n, f, ne-eqb (extentsIn marks) maxExtents (λ e. v (sym (facts .given .counted) ∙ e))))

@@ -8,7 +8,8 @@ use lib.ListN.{length, take, drop}
 use borrow.Author.Tests.{eq-eqb, eqb-true, leb-true, le-leb}
 use Rattle.reuse.specs.Lists.{mem, distinct, sum}
 use Rattle.reuse.specs.Limits.{maxReads, maxExtents, slotCount, rightCount, levels}
-use Rattle.session_rights.specs.Rights.{marksFrom, inTotals, rightly}
+use Rattle.session_rights.specs.Rights.{marksFrom, inTotals, rightly, Gives}
+use Rattle.session_rights.proofs.Rights.{rightly-marks}
 use Rattle.session_rights.proofs.Totals.{totals-length}
 use Rattle.session_marks.specs.Marks.{marked}
 use Rattle.session_soundness.specs.Soundness.{extentsIn, stackIn, firstIn, soundRows, intactRows, Wide}
@@ -139,3 +140,32 @@ module _ (first hist slots : List ℕ) (count : ℕ) (rights : List ℕ) (k : Ke
       (λ ok. let r = true-sound reads first hist slots (marksFrom levels count rights) next kept-wide ok .rows .row in
       unfold rightly in simp (t, row-zero-one r, ok))
       (λ bad. simp (bad, and-false))
+
+-- what the test of all fields says: their widths, marks that give the count and the right-hand sums, and sound rows
+pub record Intact (reads : ℕ) (first hist slots : List ℕ) (count : ℕ) (rights : List ℕ) (next : ℕ) : Type 0 where
+  pub kept : Kept first hist slots rights
+  pub given : Gives levels count rights (marksFrom levels count rights)
+  pub sound : Sound reads first hist slots (marksFrom levels count rights) next
+
+-- right-hand sums and a count that some marks give, beside rows that are sound over them
+pub true-rightly : (reads : ℕ) (first hist slots : List ℕ) (count : ℕ) (rights : List ℕ) (next : ℕ) → Kept first hist slots rights
+    → rightly levels count rights ≡ true → soundRows reads first hist slots (marksFrom levels count rights) next ≡ true → Intact reads first hist slots count rights next
+true-rightly reads first hist slots count rights next k r ok = record {
+  kept = k;
+  given = rightly-marks levels count rights (omega (arith, k .rights-wide)) r .0;
+  sound = true-sound reads first hist slots (marksFrom levels count rights) next (kept-wide first hist slots count rights k) ok;
+}
+
+-- fields that pass the test
+pub true-intact : (reads : ℕ) (first hist slots : List ℕ) (count : ℕ) (rights : List ℕ) (next : ℕ)
+    → intactRows reads first hist slots count rights next ≡ true → Intact reads first hist slots count rights next
+unfolding intactRows
+true-intact reads first hist slots count rights next h =
+    let h₁ = both _ _ h in
+    let h₂ = both _ _ (h₁ .0) in
+    let h₃ = both _ _ (h₂ .0) in
+    let h₄ = both _ _ (h₃ .0) in
+    let h₅ = both _ _ (h₄ .0) in
+    true-rightly reads first hist slots count rights next
+    (record { first-wide = eqb-true _ _ (h₅ .0); hist-wide = eqb-true _ _ (h₅ .1); slots-wide = eqb-true _ _ (h₄ .1); rights-wide = eqb-true _ _ (h₃ .1) })
+    (h₂ .1) (h₁ .1)
