@@ -10,22 +10,21 @@ use borrow.Author.Tests.{eq-eqb, ne-eqb, eqb-true, eqb-false}
 use Rattle.reuse.specs.Lists.{mem, remove, before, sum}
 use Rattle.reuse.specs.Lru.{at, depth, touch}
 use Rattle.reuse.specs.Limits.{maxExtents, slotCount}
-use Rattle.session.specs.declared.Session.{Session}
+use Rattle.session_calls.specs.Sessions.{FullSession, marks, extents, stackOf, firstRow}
 use Rattle.session_marks.specs.Marks.{marked}
-use Rattle.session.specs.Sessions.{marks, extents, stackOf, firstRow}
-use Rattle.session.specs.Reads.{gathered, roomed, slotOf, moved, entered, taken}
+use Rattle.session_calls.specs.Reads.{gathered, roomed, slotOf, moved, entered, taken}
 use Rattle.reuse.proofs.Lists.{by-test, mem-reverse, remove-absent, remove-reverse}
 use Rattle.reuse.proofs.Depth.{depth-present, depth-absent, length-before}
 use Rattle.session_marks.proofs.Marks.{out-below, depth-slot}
 use Rattle.session_marks.proofs.Rows.{gathered-marked, rows-gathered, entered-marked, entered-count, entered-first, rows-entered, moved-marked, moved-count, rows-moved}
-use Rattle.session.proofs.Sound.{Kept, marks-of, kept-of, length-stack}
+use Rattle.session_calls.proofs.Sound.{Kept, marks-of, kept-of, length-stack}
 
 -- one more at the end of a list turned round comes first
 reverse-snoc : (l : List ℕ) (x : ℕ) → reverse (l ++ (x ∷ [])) ≡ x ∷ reverse l
 reverse-snoc l x = reverse-append l (x ∷ [])
 
 -- gathering
-module _ (s : Session) (k : Kept s) where
+module _ (s : FullSession) (k : Kept s) where
   -- the marks of a gathered session
   pub gathered-marks : marks (gathered s) ≡ replicate (extents s) 1 ++ replicate (slotCount - extents s) 0
   unfolding gathered extents
@@ -52,7 +51,7 @@ module _ (s : Session) (k : Kept s) where
   gathered-extents = sym (length-stack (gathered s) kept-gathered) ∙ ap length gathered-stack ∙ length-stack s k
 
 -- σ is s with room for one more
-pub record Roomed (s σ : Session) : Type 0 where
+pub record Roomed (s σ : FullSession) : Type 0 where
   pub is : σ ≡ roomed s
   pub kept : Kept σ
   pub room : σ .next < slotCount
@@ -62,7 +61,7 @@ pub record Roomed (s σ : Session) : Type 0 where
   pub first : σ .first ≡ s .first
   pub hist : σ .hist ≡ s .hist
 
-module _ (s : Session) (k : Kept s) where
+module _ (s : FullSession) (k : Kept s) where
   -- room that was made
   pub room-made : s .next ≡ slotCount → Roomed s (gathered s)
   room-made e = record {
@@ -93,11 +92,11 @@ module _ (s : Session) (k : Kept s) where
   pub kept-roomed : Roomed s (roomed s)
   kept-roomed =
       by-test (eqb (s .next) slotCount)
-      (λ e. let m : Roomed s (gathered s) = room-made (eqb-true (s .next) slotCount e) in subst (λ (σ : Session). Roomed s σ) (m .is) m)
-      (λ e. let m : Roomed s s = room-there (eqb-false (s .next) slotCount e) in subst (λ (σ : Session). Roomed s σ) (m .is) m)
+      (λ e. let m : Roomed s (gathered s) = room-made (eqb-true (s .next) slotCount e) in subst (λ (σ : FullSession). Roomed s σ) (m .is) m)
+      (λ e. let m : Roomed s s = room-there (eqb-false (s .next) slotCount e) in subst (λ (σ : FullSession). Roomed s σ) (m .is) m)
 
 -- the slot of an extent
-module _ (s : Session) (k : Kept s) (x : ℕ) where
+module _ (s : FullSession) (k : Kept s) (x : ℕ) where
   -- x is in the stack where it is in a marked slot
   pub stack-mem : mem x (stackOf s) ≡ mem x (marked (marks s) (s .slots))
   unfolding stackOf
@@ -114,7 +113,7 @@ module _ (s : Session) (k : Kept s) (x : ℕ) where
   slot-depth old = depth-slot (k .rows .row) x (k .rows .apart) (sym stack-mem ∙ old)
 
 -- a read by a session with room
-module _ (s : Session) (k : Kept s) (x : ℕ) (room : s .next < slotCount) where
+module _ (s : FullSession) (k : Kept s) (x : ℕ) (room : s .next < slotCount) where
   -- the marks after a first read
   pub entered-marks : marks (entered s x) ≡ set (marks s) (s .next) 1
   unfolding entered

@@ -13,23 +13,21 @@ use Rattle.reuse.specs.Lists.{mem, before, firsts, sum, count}
 use Rattle.reuse.specs.Lru.{at, depth, touch, stack, reuses, countAt}
 use Rattle.reuse.specs.Summary.{histogram, countFor}
 use Rattle.reuse.specs.Limits.{maxReads, maxExtents, slotCount}
-use Rattle.session.specs.declared.Session.{Session}
+use Rattle.session_calls.specs.Sessions.{FullSession, FullWide, fresh, marks, extents, stackOf, firstRow, sound}
 use Rattle.session_marks.specs.Marks.{marked}
-use Rattle.session_soundness.specs.Soundness.{Wide}
-use Rattle.session.specs.Sessions.{fresh, marks, extents, stackOf, firstRow, sound}
-use Rattle.session.specs.Reads.{roomed, moved, entered, taken}
+use Rattle.session_calls.specs.Reads.{roomed, moved, entered, taken}
 use Rattle.reuse.proofs.Lists.{by-test, firsts-known, firsts-new}
 use Rattle.reuse.proofs.Stack.{stack-snoc, mem-stack}
 use Rattle.reuse.proofs.Depth.{depth-present, depth-absent, length-before}
 use Rattle.reuse.proofs.Words.{length-histogram}
 use Rattle.reuse.proofs.Join.{count-range, count-more, histogram-at}
 use Rattle.reuse.proofs.Sums.{free-at, getD-blank-row}
-use Rattle.session.proofs.Sound.{Kept, true-sound, kept-sound, kept-wide, kept-few, length-first, length-stack, fresh-kept}
-use Rattle.session.proofs.Taken.{kept-roomed, entered-row, kept-entered, entered-stack, kept-moved, moved-stack, moved-first}
+use Rattle.session_calls.proofs.Sound.{Kept, true-sound, kept-sound, kept-wide, kept-few, length-first, length-stack, fresh-kept}
+use Rattle.session_calls.proofs.Taken.{kept-roomed, entered-row, kept-entered, entered-stack, kept-moved, moved-stack, moved-first}
 
 -- s has read exactly the trace t: it is sound, and its L, F, stack and H are those of t
-pub record Stands (s : Session) (t : List ℕ) : Type 0 where
-  pub wide : Wide (s .first) (s .hist) (s .slots) (s .sums)
+pub record Stands (s : FullSession) (t : List ℕ) : Type 0 where
+  pub wide : FullWide s
   pub is-sound : sound s ≡ true
   pub counted : s .reads ≡ length t
   pub first-known : firstRow s ≡ firsts t
@@ -37,7 +35,7 @@ pub record Stands (s : Session) (t : List ℕ) : Type 0 where
   pub hist-known : take (extents s) (s .hist) ≡ histogram t
 
 -- the same by sound rows, with H word by word
-pub record Known (s : Session) (t : List ℕ) : Type 0 where
+pub record Known (s : FullSession) (t : List ℕ) : Type 0 where
   pub kept : Kept s
   pub counted : s .reads ≡ length t
   pub first-known : firstRow s ≡ firsts t
@@ -45,11 +43,11 @@ pub record Known (s : Session) (t : List ℕ) : Type 0 where
   pub hist-at : (i : ℕ) → getD (s .hist) i 0 ≡ countAt (reuses [] t) (suc i)
 
 -- the marks are as many as the trace's extents
-pub known-extents : (s : Session) (t : List ℕ) → Known s t → extents s ≡ length (firsts t)
+pub known-extents : (s : FullSession) (t : List ℕ) → Known s t → extents s ≡ length (firsts t)
 known-extents s t g = sym (length-first s (g .kept)) ∙ ap length (g .first-known)
 
 -- what is known stands, within the limit of reads
-pub known-stands : (s : Session) (t : List ℕ) → Known s t → length t ≤ maxReads → Stands s t
+pub known-stands : (s : FullSession) (t : List ℕ) → Known s t → length t ≤ maxReads → Stands s t
 known-stands s t g short = record {
   wide = kept-wide s (g .kept);
   is-sound = kept-sound s (g .kept) (omega (arith, g .counted));
@@ -67,7 +65,7 @@ known-stands s t g short = record {
     same = size ∙ known-extents s t g ∙ sym (length-histogram t)
 
 -- what stands is known
-pub stands-known : (s : Session) (t : List ℕ) → Stands s t → Known s t
+pub stands-known : (s : FullSession) (t : List ℕ) → Stands s t → Known s t
 stands-known s t g = record {
   kept = kept;
   counted = g .counted;
@@ -103,7 +101,7 @@ fresh-stands = known-stands fresh [] (record {
 }) (omega arith)
 
 -- room for one more keeps what is known
-pub known-roomed : (s : Session) (t : List ℕ) → Known s t → Known (roomed s) t
+pub known-roomed : (s : FullSession) (t : List ℕ) → Known s t → Known (roomed s) t
 known-roomed s t g =
     let m = kept-roomed s (g .kept) in
     record {
@@ -114,7 +112,7 @@ known-roomed s t g =
       hist-at = λ i. rw (m .hist) (g .hist-at i);
     }
 
-module _ (s : Session) (t : List ℕ) (g : Known s t) (x : ℕ) (room : s .next < slotCount) where
+module _ (s : FullSession) (t : List ℕ) (g : Known s t) (x : ℕ) (room : s .next < slotCount) where
   -- x is in the stack where it is in the trace
   stack-trace : mem x (stackOf s) ≡ mem x t
   stack-trace = ap (mem x) (g .stacked) ∙ mem-stack x t

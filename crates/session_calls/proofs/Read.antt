@@ -10,24 +10,21 @@ use borrow.Author.Tests.{eq-eqb, ne-eqb, eqb-true, eqb-false, not-true}
 use Rattle.reuse.specs.Lists.{mem, firsts}
 use Rattle.reuse.specs.Lru.{Reuse, cold, at, depth, stack}
 use Rattle.reuse.specs.Limits.{maxReads, maxExtents, slotCount, levels}
-use Rattle.session.specs.declared.Session.{Session}
-use Rattle.session.specs.declared.Step.{Step}
-use Rattle.session.specs.declared.Answer.{Answer}
-use Rattle.session.specs.declared.Answer.the-variants.{Distance, Refused}
-use Rattle.session.specs.Sessions.{marks, extents, stackOf, sound}
-use Rattle.session.specs.Reads.{roomed, slotOf, stepAt, taken, refused, tooMany, readOf}
-use Rattle.session_soundness.specs.Soundness.{Wide}
-use Rattle.session_traces.specs.Walks.{onTheWay, totalAt, Walks}
+use Rattle.session_calls.specs.Sessions.{FullSession, FullWide, marks, extents, stackOf, sound}
+use Rattle.session_calls.specs.Reads.{FullStep, roomed, slotOf, stepAt, taken, refused, tooMany, readOf}
+use Rattle.session_calls.specs.declared.Answer.{Answer}
+use Rattle.session_calls.specs.declared.Answer.the-variants.{Distance, Refused}
+use Rattle.session_calls.specs.Walks.{onTheWay, totalAt, Walks}
 use Rattle.reuse.proofs.Lists.{by-test, both}
 use Rattle.reuse.proofs.Stack.{mem-stack}
 use Rattle.session_sums.proofs.Tree.{full}
 use Rattle.session_sums.proofs.Walks.{neighbours-count, neighbours-total}
-use Rattle.session.proofs.Sound.{Kept, Sound, true-sound, kept-sound, kept-wide, kept-few, kept-trued}
-use Rattle.session.proofs.Taken.{Roomed, kept-roomed, kept-taken, taken-reads, slot-below, slot-depth}
-use Rattle.session_traces.proofs.Stands.{Stands, stands-known, known-stands, known-extents, known-roomed, known-taken}
+use Rattle.session_calls.proofs.Sound.{Kept, Sound, true-sound, kept-sound, kept-wide, kept-few, kept-trued}
+use Rattle.session_calls.proofs.Taken.{Roomed, kept-roomed, kept-taken, taken-reads, slot-below, slot-depth}
+use Rattle.session_calls.proofs.Stands.{Stands, stands-known, known-stands, known-extents, known-roomed, known-taken}
 
 -- a sound session's read, refused or not, leaves a sound session, whether or not a trace gave it
-module _ (s : Session) (w : Wide (s .first) (s .hist) (s .slots) (s .sums)) (ok : sound s ≡ true) (x : ℕ) where
+module _ (s : FullSession) (w : FullWide s) (ok : sound s ≡ true) (x : ℕ) where
   -- the facts of the test
   facts : Sound s
   facts = true-sound s w ok
@@ -60,11 +57,11 @@ module _ (s : Session) (w : Wide (s .first) (s .hist) (s .slots) (s .sums)) (ok 
   read-sound = kept-sound (readOf s x .session) (read-keeps .0) (read-keeps .1)
 
   -- its arrays keep their widths
-  pub read-wide : let r = readOf s x .session in Wide (r .first) (r .hist) (r .slots) (r .sums)
+  pub read-wide : let r = readOf s x .session in FullWide r
   read-wide = kept-wide (readOf s x .session) (read-keeps .0)
 
 -- an accepted read of a known extent by a session with room
-taken-neighbours : (s : Session) → Kept s → (x : ℕ) → mem x (stackOf s) ≡ true
+taken-neighbours : (s : FullSession) → Kept s → (x : ℕ) → mem x (stackOf s) ≡ true
     → taken s x .answer ≡ Distance (suc (totalAt s (onTheWay s x))) (length (onTheWay s x)) (s .next - slotOf s x)
 unfolding taken
 taken-neighbours s k x old =
@@ -92,7 +89,7 @@ walks s w ok x old short =
 abbrev pub over : List ℕ → ℕ → Bool
 over t x = not (mem x t) && eqb (length (firsts t)) maxExtents
 
-module _ (s : Session) (t : List ℕ) (g : Stands s t) (x : ℕ) where
+module _ (s : FullSession) (t : List ℕ) (g : Stands s t) (x : ℕ) where
   -- an accepted read, by the trace's own stack
   taken-is : taken (roomed s) x ≡ stepAt (roomed s) x (depth (stack t) x)
   unfolding taken
@@ -138,7 +135,7 @@ module _ (s : Session) (t : List ℕ) (g : Stands s t) (x : ℕ) where
       (simp length-append (omega (arith, g .counted, true-sound s (g .wide) (g .is-sound) .short, eqb-false (length t) maxReads short))))
 
 -- an accepted read's answer is no refusal
-accepted : (s : Session) (x : ℕ) (r : Reuse) (n : ℕ) → stepAt s x r .answer ≡ Refused n → ⊥
+accepted : (s : FullSession) (x : ℕ) (r : Reuse) (n : ℕ) → stepAt s x r .answer ≡ Refused n → ⊥
 accepted s x (cold m) n e = let z : _≡_ {A = ℕ} 0 1 = cc in omega arith
 accepted s x (at d) n e = let z : _≡_ {A = ℕ} 0 1 = cc in omega arith
 
@@ -147,11 +144,11 @@ one-number : (m n : ℕ) → Refused m ≡ Refused n → m ≡ n
 one-number m n e = cc
 
 -- the answer of an equal step
-answered : {r q : Step} {a : Answer} → r ≡ q → r .answer ≡ a → q .answer ≡ a
-answered e a = ap (λ (p : Step). p .answer) (sym e) ∙ a
+answered : {r q : FullStep} {a : Answer} → r ≡ q → r .answer ≡ a → q .answer ≡ a
+answered e a = ap (λ (p : FullStep). p .answer) (sym e) ∙ a
 
 -- what a read makes of a session that has read t: 8, or else 9, or else t one read on
-pub record Refines (s : Session) (t : List ℕ) (x : ℕ) : Type 0 where
+pub record Refines (s : FullSession) (t : List ℕ) (x : ℕ) : Type 0 where
   pub full : length t ≡ maxReads → readOf s x ≡ refused s 8
   pub many : (length t ≡ maxReads → ⊥) → mem x t ≡ false → length (firsts t) ≡ maxExtents → readOf s x ≡ refused s 9
   pub taken : (length t ≡ maxReads → ⊥) → (mem x t ≡ false → length (firsts t) ≡ maxExtents → ⊥)
@@ -160,7 +157,7 @@ pub record Refines (s : Session) (t : List ℕ) (x : ℕ) : Type 0 where
   pub only-many : readOf s x .answer ≡ Refused 9 → (length t ≡ maxReads → ⊥) × (mem x t ≡ false) × (length (firsts t) ≡ maxExtents)
 
 -- every read of a session that has read a trace is one of these
-pub read-refines : (s : Session) (t : List ℕ) (x : ℕ) → Stands s t → Refines s t x
+pub read-refines : (s : FullSession) (t : List ℕ) (x : ℕ) → Stands s t → Refines s t x
 read-refines s t x g = record {
   full = λ e. read-full s t g x (eq-eqb (length t) maxReads e);
   many = λ short new e. read-many s t g x (ne-eqb (length t) maxReads short) (simp (new, eq-eqb (length (firsts t)) maxExtents e));

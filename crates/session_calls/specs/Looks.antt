@@ -7,13 +7,11 @@ use mathlib.Core.Bool.{true, false}
 use lib.ListN.{length, getD}
 use Rattle.reuse.specs.Limits.{maxReads, slotCount}
 use Rattle.reuse.specs.Lists.{mem, from}
-use Rattle.session_soundness.specs.Soundness.{Wide}
-use Rattle.session.specs.declared.Session.{Session}
-use Rattle.session.specs.Sessions.{marks, stackOf, sound}
-use Rattle.session.specs.Reads.{roomed, slotOf, lookedAt, tooMany, readOf, slotsLooked}
+use Rattle.session_calls.specs.Sessions.{FullSession, FullWide, marks, stackOf, sound}
+use Rattle.session_calls.specs.Reads.{roomed, slotOf, lookedAt, tooMany, readOf, slotsLooked}
 
 -- what an accepted read of x looks at, after any move of the marks
-pub record Look (s : Session) (x : ℕ) : Type 0 where
+pub record Look (s : FullSession) (x : ℕ) : Type 0 where
   -- the answer tells how many slots the search looks at
   pub tells : slotsLooked (readOf s x .answer) ≡ length (lookedAt (roomed s) x)
   -- for a known extent these are the slots from the newest down to its own mark
@@ -28,5 +26,5 @@ pub record Look (s : Session) (x : ℕ) : Type 0 where
 
 -- of every sound session, whether or not a log gave it
 abbrev pub Looks : Type 0
-Looks = (s : Session) → Wide (s .first) (s .hist) (s .slots) (s .sums) → sound s ≡ true
+Looks = (s : FullSession) → FullWide s → sound s ≡ true
     → (x : ℕ) → s .reads < maxReads → tooMany s x ≡ false → Look s x

@@ -1,6 +1,6 @@
 -- The test `sound` as named facts: sound rows, true sums over them, and reads within the limit.
 use Prim.Native.Nat.{ℕ, _+_, _-_, _≤_}
-use mathlib.Core.Path.{_≡_, refl, sym, ap, _∙_}
+use mathlib.Core.Path.{_≡_, sym, ap, _∙_}
 use mathlib.Core.List.{List}
 use mathlib.Core.Bool.{true}
 use native.Mathlib.Omega.{arith}
@@ -8,60 +8,59 @@ use lib.ListN.{length, take, replicate, length-reverse}
 use lib.Seq.{length-take-le}
 use Rattle.reuse.specs.Lists.{mem, sum}
 use Rattle.reuse.specs.Limits.{maxReads, maxExtents, slotCount, levels}
-use Rattle.session_sums.specs.Sums.{sumsOf, marksIn, Trued}
+use Rattle.session_sums.specs.Sums.{sumsOf, marksIn, same, Trued}
+use Rattle.session_soundness.specs.Soundness.{Wide, soundRows}
+use Rattle.reuse.proofs.Lists.{both}
+use Rattle.session_sums.proofs.Tests.{same-of, same-eq}
 use Rattle.session_marks.specs.Marks.{marked}
-use Rattle.session_soundness.specs.Soundness.{Wide}
-use Rattle.session.specs.declared.Session.{Session}
-use Rattle.session.specs.Sessions.{fresh, marks, extents, stackOf, firstRow, sound}
+use Rattle.session_calls.specs.Sessions.{FullSession, FullWide, fresh, marks, extents, stackOf, firstRow, sound}
 use Rattle.session_sums.proofs.Tree.{leaves, full, take-sums, sums-blank-row, trued-of, trued-wide}
 use Rattle.session_marks.proofs.Marks.{row-length, row-count}
 use Rattle.session_marks.proofs.Rows.{Rows, rows-new}
 use Rattle.session_soundness.proofs.Sound as fields
 
 -- a session's rows are sound, and its sums are true
-pub record Kept (s : Session) : Type 0 where
+pub record Kept (s : FullSession) : Type 0 where
   pub rows : Rows slotCount maxExtents (marks s) (s .slots) (s .first) (s .hist) (s .next) (s .reads)
   pub tree : s .sums ≡ sumsOf levels (marks s)
 
 -- what the test of a session says
-pub record Sound (s : Session) : Type 0 where
+pub record Sound (s : FullSession) : Type 0 where
   pub kept : Kept s
   pub short : s .reads ≤ maxReads
 
 -- the marks under sums that were made over them
-pub marks-of : (s : Session) (ms : List ℕ) → s .sums ≡ sumsOf levels ms → length ms ≡ slotCount → marks s ≡ ms
+pub marks-of : (s : FullSession) (ms : List ℕ) → s .sums ≡ sumsOf levels ms → length ms ≡ slotCount → marks s ≡ ms
 unfolding marks
 marks-of s ms e w = ap (marksIn) e ∙ take-sums levels slotCount ms w
 
 -- a session over sound rows
-pub kept-of : (s : Session) (ms : List ℕ) → s .sums ≡ sumsOf levels ms → Rows slotCount maxExtents ms (s .slots) (s .first) (s .hist) (s .next) (s .reads) → Kept s
+pub kept-of : (s : FullSession) (ms : List ℕ) → s .sums ≡ sumsOf levels ms → Rows slotCount maxExtents ms (s .slots) (s .first) (s .hist) (s .next) (s .reads) → Kept s
 kept-of s ms e h = let m : marks s ≡ ms = marks-of s ms e (h .wide) in record { rows = rw m h; tree = e ∙ ap (sumsOf levels) (sym m) }
 
+-- the widths of its rows, with its marks
+rows-wide : (s : FullSession) → FullWide s → Wide (s .first) (s .hist) (s .slots) (marks s)
+unfolding marks
+rows-wide s w = record {
+  first-wide = w .first-wide;
+  hist-wide = w .hist-wide;
+  slots-wide = w .slots-wide;
+  marks-wide = length-take-le slotCount (s .sums) (omega (arith, w .sums-wide));
+}
+
 -- the test gives the facts
-pub true-sound : (s : Session) → Wide (s .first) (s .hist) (s .slots) (s .sums) → sound s ≡ true → Sound s
-unfolding sound marks
+pub true-sound : (s : FullSession) → FullWide s → sound s ≡ true → Sound s
+unfolding sound
 true-sound s w h =
-    let f = fields.true-sound (s .reads) (s .first) (s .hist) (s .slots) (s .sums) (s .next) w h in
-    record { kept = record { rows = f .kept .rows; tree = f .kept .tree }; short = f .short }
+    let p = both (soundRows (s .reads) (s .first) (s .hist) (s .slots) (marks s) (s .next)) (same (s .sums) (sumsOf levels (marks s))) h in
+    let f = fields.true-sound (s .reads) (s .first) (s .hist) (s .slots) (marks s) (s .next) (rows-wide s w) (p .0) in
+    record { kept = record { rows = f .rows; tree = same-eq (s .sums) (sumsOf levels (marks s)) (p .1) }; short = f .short }
 
--- the sum over all marks
-abbrev pub root : Session → ℕ
-root s = fields.root (s .sums)
-
-module _ (s : Session) (k : Kept s) where
-  -- the same of its fields
-  abbrev Fields : Type 0
-  Fields = fields.Kept (s .reads) (s .first) (s .hist) (s .slots) (s .sums) (s .next)
-
-  -- what is kept of the session is kept of its fields
-  kept-fields : Fields
-  unfolding marks
-  kept-fields = record { rows = k .rows; tree = k .tree }
-
+module _ (s : FullSession) (k : Kept s) where
   -- the stack has the extents of F
   pub kept-listed : (y : ℕ) → mem y (firstRow s) ≡ mem y (stackOf s)
-  unfolding firstRow stackOf extents marks
-  kept-listed y = fields.kept-listed (s .reads) (s .first) (s .hist) (s .slots) (s .sums) (s .next) kept-fields y
+  unfolding firstRow stackOf extents
+  kept-listed y = fields.kept-listed (s .reads) (s .first) (s .hist) (s .slots) (marks s) (s .next) (k .rows) y
 
   -- no more marks than the limit of extents
   pub kept-few : extents s ≤ maxExtents
@@ -83,7 +82,7 @@ module _ (s : Session) (k : Kept s) where
   kept-trued = trued-of levels slotCount (s .sums) (marks s) (k .tree) (k .rows .wide) (omega (arith, k .rows .few))
 
   -- the arrays' widths
-  pub kept-wide : Wide (s .first) (s .hist) (s .slots) (s .sums)
+  pub kept-wide : FullWide s
   kept-wide = record {
     first-wide = k .rows .first-wide;
     hist-wide = k .rows .hist-wide;
@@ -91,23 +90,18 @@ module _ (s : Session) (k : Kept s) where
     sums-wide = trued-wide (s .sums) kept-trued;
   }
 
-  -- the root is v
-  pub kept-root : root s ≡ extents s
-  unfolding extents marks
-  kept-root = fields.kept-root (s .reads) (s .first) (s .hist) (s .slots) (s .sums) (s .next) kept-fields
-
   -- H adds up to the reads that are not cold
   pub hist-total : extents s + sum (take (extents s) (s .hist)) ≡ s .reads
-  unfolding extents marks
-  hist-total = fields.hist-total (s .reads) (s .first) (s .hist) (s .slots) (s .sums) (s .next) kept-fields
+  unfolding extents
+  hist-total = fields.hist-total (s .reads) (s .first) (s .hist) (s .slots) (marks s) (s .next) (k .rows)
 
   -- the facts pass the test
   pub kept-sound : s .reads ≤ maxReads → sound s ≡ true
   unfolding sound
-  kept-sound short = fields.kept-sound (s .reads) (s .first) (s .hist) (s .slots) (s .sums) (s .next) kept-fields short
+  kept-sound short = simp (fields.kept-sound (s .reads) (s .first) (s .hist) (s .slots) (marks s) (s .next) (k .rows) short, same-of (k .tree))
 
 -- the rows of a sound session
-pub rows-of : (s : Session) → Wide (s .first) (s .hist) (s .slots) (s .sums) → sound s ≡ true → Kept s
+pub rows-of : (s : FullSession) → FullWide s → sound s ≡ true → Kept s
 rows-of s w ok = true-sound s w ok .kept
 
 -- the sums of a new session

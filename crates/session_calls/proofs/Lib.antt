@@ -1,0 +1,6 @@
+pub mod Sound
+pub mod Taken
+pub mod Looked
+pub mod Stands
+pub mod Read
+pub mod Looks

@@ -1,0 +1,4 @@
+pub mod Sessions
+pub mod Reads
+pub mod Walks
+pub mod Looks
