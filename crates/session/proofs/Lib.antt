@@ -1,4 +1,3 @@
-pub mod Sound
-pub mod Taken
-pub mod Looked
+pub mod Corresponds
 pub mod Ways
+pub mod Parts

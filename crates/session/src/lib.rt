@@ -4,39 +4,28 @@ ghost use Prim.Native.Nat.{suc};
 ghost use lib.ListN.{drop};
 ghost use Rattle.reuse.specs.Lists.{sum};
 ghost use Rattle.reuse.specs.Lru.{cold, at};
-ghost use Rattle.session.specs.Sessions.{fresh, marks, extents, sound};
-ghost use Rattle.session.specs.Reads.{gathered, stepAt, refused, readOf};
+ghost use Rattle.session_calls.specs.Sessions as full;
+ghost use Rattle.session_calls.specs.Reads.{stepAt};
+ghost use Rattle.session.specs.Sessions.{fresh, oldOf, sound};
+ghost use Rattle.session.specs.Reads.{newStep, gathered, refused, readOf};
 ghost use Rattle.session.specs.Steps.{Gatherable, Movable, Enterable};
 use reuse::MAX_EXTENTS;
+use reuse::RIGHTS;
 use reuse::SLOTS;
-use reuse::SUMS;
+use session_calls::Answer;
 
-// The place of the sum over all marks.
-const ROOT: usize = SUMS - 1;
+// One less, modulo 2^32.
+const ONE_LESS: u32 = 4294967295;
 
-// L, F and H, the slots with the sums over their marks, and the next slot.
+// L, F and H, the slots with the count of their marks and the right-hand sums over them, and the next slot.
 pub struct Session {
     pub reads: u32,
     pub first: [u32; MAX_EXTENTS],
     pub hist: [u32; MAX_EXTENTS],
     pub slots: [u32; SLOTS],
-    pub sums: [u32; SUMS],
+    pub count: u32,
+    pub rights: [u32; RIGHTS],
     pub next: u32,
-}
-
-// A read's answer: cold with the number of different extents read, itself included; its distance with the number of sums
-// read; both with the number of slots looked at; or the refusal's number.
-pub enum Answer {
-    Cold {
-        number: u32,
-        slots_looked: u32,
-    },
-    Distance {
-        distance: u32,
-        sums_read: u32,
-        slots_looked: u32,
-    },
-    Refused(u32),
 }
 
 // The session after a read, beside the answer.
@@ -55,7 +44,8 @@ impl Session {
             first: [0; 1024],
             hist: [0; 1024],
             slots: [0; 2048],
-            sums: [0; 4095],
+            count: 0,
+            rights: [0; 2047],
             next: 0,
         }
     }
@@ -66,11 +56,13 @@ impl Session {
     {
         let upto = self.next as usize;
         let counted = self.reads;
+        let marked = self.count;
         session_soundness::intact(
             &self.first,
             &self.hist,
             &self.slots,
-            &self.sums,
+            marked,
+            &self.rights,
             upto,
             counted,
         )
@@ -81,11 +73,12 @@ impl Session {
         requires { ⌜ Gatherable self ⌝ }
         ensures { λ r. ⌜ r ≡ gathered self ⌝ }
     {
-        let v = self.sums[ROOT];
-        let slots = session_marks::gather(&self.slots, &self.sums);
-        let sums = session_sums::first_marks(v as usize);
+        let v = self.count;
+        let worked = session_points::work_out(v, &self.rights);
+        let slots = session_marks::gather(&self.slots, &worked.marks);
+        let rights = session_points::front(v as usize);
         self.slots = slots;
-        self.sums = sums;
+        self.rights = rights;
         self.next = v;
         self
     }
@@ -93,13 +86,13 @@ impl Session {
     // A read of the extent x, whose mark is in slot k, after so many slots looked at.
     fn moved(self, x: u32, k: usize, looked: u32) -> Step
         requires { ⌜ Movable self x k looked ⌝ }
-        ensures { λ r. ⌜ r ≡ stepAt self x (at (suc (sum (drop (suc k) (marks self))))) ⌝ }
+        ensures { λ r. ⌜ r ≡ newStep (stepAt (oldOf self) x (at (suc (sum (drop (suc k) (full.marks (oldOf self))))))) ⌝ }
     {
         let next = self.next as usize;
-        let mut sums = self.sums;
-        let w = session_sums::above(&sums, k);
-        session_sums::put_mark(&mut sums, k, 0);
-        session_sums::put_mark(&mut sums, next, 1);
+        let mut rights = self.rights;
+        let w = session_points::above(&rights, k);
+        session_points::change(&mut rights, k, ONE_LESS);
+        session_points::change(&mut rights, next, 1);
         let mut slots = self.slots;
         slots[k] = 0;
         slots[next] = x;
@@ -113,7 +106,8 @@ impl Session {
                 first,
                 hist,
                 slots,
-                sums,
+                count: self.count,
+                rights,
                 next: self.next + 1,
             },
             answer: Answer::Distance {
@@ -127,12 +121,12 @@ impl Session {
     // A first read of the extent x, after so many slots looked at.
     fn entered(self, x: u32, looked: u32) -> Step
         requires { ⌜ Enterable self looked ⌝ }
-        ensures { λ r. ⌜ r ≡ stepAt self x (cold (suc (extents self))) ⌝ }
+        ensures { λ r. ⌜ r ≡ newStep (stepAt (oldOf self) x (cold (suc (full.extents (oldOf self))))) ⌝ }
     {
         let next = self.next as usize;
-        let mut sums = self.sums;
-        let v = sums[ROOT];
-        session_sums::put_mark(&mut sums, next, 1);
+        let v = self.count;
+        let mut rights = self.rights;
+        session_points::change(&mut rights, next, 1);
         let mut slots = self.slots;
         slots[next] = x;
         let mut first = self.first;
@@ -144,7 +138,8 @@ impl Session {
                 first,
                 hist,
                 slots,
-                sums,
+                count: v + 1,
+                rights,
                 next: self.next + 1,
             },
             answer: Answer::Cold {
@@ -171,11 +166,13 @@ impl Session {
     {
         let next = self.next as usize;
         let reads = self.reads;
+        let count = self.count;
         let n = session_refusals::refusal(
             &self.first,
             &self.hist,
             &self.slots,
-            &self.sums,
+            count,
+            &self.rights,
             next,
             reads,
             extent,
@@ -187,7 +184,8 @@ impl Session {
             self = self.gathered();
         }
         let below = self.next as usize;
-        let f = session_marks::find(&self.slots, &self.sums, below, extent);
+        let marked = self.count;
+        let f = session_marks::find(&self.slots, marked, &self.rights, below, extent);
         if f.slot == SLOTS {
             return self.entered(extent, f.looked);
         }

@@ -4,7 +4,7 @@ use mathlib.Core.Path.{_≡_, sym, ap, _∙_}
 use mathlib.Core.List.{List}
 use mathlib.Core.Bool.{true}
 use native.Mathlib.Omega.{arith}
-use lib.ListN.{length, take, replicate, length-reverse}
+use lib.ListN.{length, take, replicate, length-replicate, length-reverse}
 use lib.Seq.{length-take-le}
 use Rattle.reuse.specs.Lists.{mem, sum}
 use Rattle.reuse.specs.Limits.{maxReads, maxExtents, slotCount, levels}
@@ -109,6 +109,10 @@ fresh-tree : (n : ℕ) → leaves levels ≡ n → 1 ≤ n → replicate (n + n 
 fresh-tree n e pos =
     let most : n + n - 1 + 1 ≡ leaves levels + leaves levels = omega arith in
     sym (sums-blank-row levels (n + n - 1) most) ∙ ap (λ (k : ℕ). sumsOf levels (replicate k 0)) e
+
+-- a new session has no mark
+pub fresh-marks : marks fresh ≡ replicate slotCount 0
+fresh-marks = marks-of fresh (replicate slotCount 0) (fresh-tree slotCount full (omega arith)) (length-replicate {A = ℕ} slotCount 0)
 
 -- a new session's rows are sound
 pub fresh-kept : Kept fresh

@@ -1,45 +1,39 @@
--- `session::Session::gathered` meets its contract. From what `gather` and `first_marks` ensure.
-use mathlib.Core.Path.{refl, _∙_}
-use Prim.Native.Nat.{_-_}
-use native.Mathlib.Omega.{arith}
-use Rattle.reuse.specs.Limits.{slotCount, levels}
-use Rattle.session_sums.specs.Sums.{marksIn, filled}
-use Rattle.session.specs.Sessions.{marks, extents}
-use Rattle.session.specs.Reads.{gathered}
-use Rattle.session_sums.proofs.Tree.{full, trued-root, trued-wide}
-use Rattle.session_sums.proofs.Filled.{first-marks}
-use Rattle.session_marks.proofs.Marks.{row-count, tidy-row}
-use Rattle.session_marks.proofs.Passes.{gathered-pair}
-use Rattle.session_marks.proofs.Search.{pair-of}
+-- `session::Session::gathered` meets its contract. From what `work_out`, `gather` and `front` ensure.
+use Prim.Native.Nat.{ℕ}
+use mathlib.Core.Path.{ap, _∙_}
+use mathlib.Core.List.{List}
+use Rattle.session_points.specs.declared.Worked.{Worked}
+use Rattle.session_marks.specs.Marks.{gatheredRow}
+use Rattle.session.proofs.Parts.{worked, gathered-new}
 use borrow.Author.Needs.{needs}
 use Rattle.session.proofs.Session.gathered.Statement.{statement}
 use Rattle.session.proofs.Session.gathered.Tie as tie
+use Rattle.session.proofs.Session.gathered.Reads as reads
+use Rattle.session.proofs.Session.gathered.Lts as lts
+use Rattle.session_marks.proofs.gather.Reads as gather-reads
+use Rattle.session_points.proofs.front.Reads as front-reads
+use Rattle.session_points.proofs.work_out.Reads as work-out-reads
 
-element-copy-out-v : tie.Need-element-copy-out-v
-element-copy-out-v c = search needs
+work-out-requires : tie.Need-work-out-requires
+work-out-requires c κs = search needs
 
 gather-requires : tie.Need-gather-requires
 gather-requires c κs = search needs
 
-cast-first-marks : tie.Need-cast-first-marks
-cast-first-marks c = search needs
+cast-front : tie.Need-cast-front
+cast-front c = search needs
 
-first-marks-requires : tie.Need-first-marks-requires
-first-marks-requires c κs = search needs
+front-requires : tie.Need-front-requires
+front-requires c κs = search needs
 
 returns : tie.Need-returns
-unfolding extents marks gathered filled
 returns c =
-    let g = c .before in
-    let z = g .before .before .before .before .before .before .before in
-    let p = z .pre in
+    let z = c .before .before .before .before .before .before .before .before .before .before .before .before in
     let s = z .args .t1 in
-    let e = trued-root levels slotCount (s .sums) (p .trued) full in
-    let n = row-count (tidy-row (marksIn (s .sums)) (s .slots) (omega (arith, p .slots-wide, p .trued .full)) (p .neat)) in
-    let slots = g .gather .ensures ∙ gathered-pair (s .slots) (s .sums) (pair-of (s .slots) (s .sums) (p .slots-wide) (trued-wide (s .sums) (p .trued))) in
-    rw (slots, n, c .first-marks .ensures, e, first-marks _ (p .trued .few))
+    let w = c .before .before .before .before .before .before .before .before .work-out in
+    let marks = ap (λ (r : Worked). r .marks) (w .ensures) ∙ worked s (z .pre .summed) in
+    gathered-new s (z .pre) _ _ (c .before .gather .ensures ∙ ap (gatheredRow (s .slots)) marks) (c .front .ensures)
 
 pub gathered-spec : {M : Type 1} → statement M
 gathered-spec =
-    tie.close
-    (tie.spec element-copy-out-v gather-requires cast-first-marks first-marks-requires returns)
+    tie.close (tie.spec work-out-requires gather-requires cast-front front-requires returns)

@@ -1,68 +1,43 @@
--- `session::Session::moved` meets its contract. From what `above` and `put_mark` ensure.
+-- `session::Session::moved` meets its contract. From what `above` and `change` ensure.
 use mathlib.Core.Path.{_≡_, ap, _∙_}
 use mathlib.Core.List.{List}
-use Prim.Native.Nat.{ℕ, suc, _+_, _-_, _<_}
+use Prim.Native.Nat.{ℕ, suc, _-_, _^_, _<_}
 use native.Mathlib.Omega.{arith}
-use native.Mathlib.Numerals.{add-one}
-use lib.ListN.{drop, set, getD}
+use lib.ListN.{drop, getD}
 use Rattle.reuse.specs.Limits.{maxExtents, levels}
 use Rattle.reuse.specs.Lists.{sum}
-use Rattle.reuse.specs.Lru.{at}
-use Rattle.session_sums.specs.declared.Walked.{Walked}
-use Rattle.session_sums.specs.Sums.{sumsOf, marksIn, zeros}
-use Rattle.session_sums.specs.Changes.{markPut}
-use Rattle.session.specs.declared.Session.{Session}
-use Rattle.session.specs.declared.Step.{Step}
-use Rattle.session.specs.declared.Answer.the-variants.{Distance}
-use Rattle.session.specs.Sessions.{marks}
-use Rattle.session.specs.Reads.{slotOf, moved, stepAt}
-use Rattle.session_sums.proofs.Walks.{walked-trued}
-use Rattle.session_sums.proofs.Changes.{put-moved}
+use Rattle.session_sums.specs.Sums.{zeros}
+use Rattle.session_points.specs.declared.Walked.{Walked}
+use Rattle.session_points.specs.Points.{changedBy}
+use Rattle.session_calls.specs.Sessions as full
+use Rattle.session.specs.Sessions.{oldOf}
+use Rattle.session.proofs.Parts as parts
 use borrow.Author.Needs.{needs}
 use Rattle.session.proofs.Session.moved.Statement.{statement}
 use Rattle.session.proofs.Session.moved.Tie as tie
+use Rattle.session.proofs.Session.moved.Reads as reads
+use Rattle.session.proofs.Session.moved.Lts as lts
+use Rattle.session_points.proofs.above.Reads as above-reads
+use Rattle.session_points.proofs.change.Reads as change-reads
 
--- the start, from the place after the walk
+-- the start, from the place after the way up
 abbrev start : tie.After-above → tie.Start
 start c = c .before .before .before .before
 
--- what the walk read
+-- what the way up read
 walked : (c : tie.After-above)
-    → c .above .result ≡ record { total = sum (drop (suc (start c .args .k)) (marksIn (start c .args .self .sums))); count = zeros levels (start c .args .k) }
-walked c = c .above .ensures ∙ walked-trued _ _ (start c .pre .trued) (omega (arith, start c .pre .below, start c .pre .room))
+    → c .above .result ≡ record { total = sum (drop (suc (start c .args .k)) (full.marks (oldOf (start c .args .self)))); count = zeros levels (start c .args .k) }
+walked c = c .above .ensures ∙ parts.walked (start c .args .self) (start c .pre .summed) (start c .args .k) (omega (arith, start c .pre .below, start c .pre .room))
 
 -- the marks behind slot k
-total : (c : tie.After-above) → c .above .result .total ≡ sum (drop (suc (start c .args .k)) (marks (start c .args .self)))
-unfolding marks
+total : (c : tie.After-above) → c .above .result .total ≡ sum (drop (suc (start c .args .k)) (full.marks (oldOf (start c .args .self))))
 total c = ap (λ (w : Walked). w .total) (walked c)
 
 -- fewer than the limit of extents
 small : (c : tie.After-above) → c .above .result .total < maxExtents
 small c = omega (arith, total c, start c .pre .behind)
 
--- the step, of the slots looked at, what the walk read and the sums with the mark moved
-moved-step : (s : Session) (x k looked : ℕ) (w : Walked) (sums : List ℕ)
-    → k ≡ slotOf s x → looked ≡ s .next - k → w ≡ record { total = sum (drop (suc k) (marks s)); count = zeros levels k } → sums ≡ sumsOf levels (set (set (marks s) k 0) (s .next) 1)
-    → _≡_ {A = Step}
-    (record {
-      session = record {
-        reads = s .reads + 1;
-        first = s .first;
-        hist = set (s .hist) (w .total) (getD (s .hist) (w .total) 0 + 1);
-        slots = set (set (s .slots) k 0) (s .next) x;
-        sums = sums;
-        next = s .next + 1;
-      };
-      answer = Distance (w .total + 1) (w .count) looked;
-    })
-    (stepAt s x (at (suc (sum (drop (suc k) (marks s))))))
-unfolding moved
-moved-step s x k looked w sums here seen read put =
-    let n = sum (drop (suc k) (marks s)) in
-    let back : suc n - 1 ≡ n = omega arith in
-    simp (add-one, ← here, back, seen, read, put)
-
--- the walk, from the place where H is changed
+-- the way up, from the place where H is changed
 abbrev walk : tie.After-hist → tie.After-above
 walk c = c .before .before .before .before .before .before
 
@@ -79,11 +54,11 @@ slice-aggregate-above c = search needs
 above-requires : tie.Need-above-requires
 above-requires c κs = search needs
 
-put-mark-requires : tie.Need-put-mark-requires
-put-mark-requires c κs = search needs
+change-requires : tie.Need-change-requires
+change-requires c κs = search needs
 
-put-mark-requires-2 : tie.Need-put-mark-requires-2
-put-mark-requires-2 c κs = search needs
+change-requires-2 : tie.Need-change-requires-2
+change-requires-2 c κs = search needs
 
 mul-slots : tie.Need-mul-slots
 mul-slots c = search needs
@@ -127,17 +102,12 @@ add-t34 : tie.Need-add-t34
 add-t34 c = omega (arith, small (walk (changed c)))
 
 returns : tie.Need-returns
-unfolding marks
 returns c =
     let put = changed c .before .before in
     let a = walk (changed c) in
-    let p = start a .pre in
-    let s = start a .args .self in
-    let k = start a .args .k in
-    moved-step s (start a .args .x) k (start a .args .looked) (a .above .result) (put .put-mark2 .last .0) (p .here) (p .seen) (walked a)
-    (put .put-mark2 .ensures
-    ∙ ap (λ (l : List ℕ). markPut l (s .next) 1) (put .before .before .put-mark .ensures)
-    ∙ put-moved (s .sums) k (s .next) (p .trued) (omega (arith, p .below, p .room)) (p .room))
+    let z = start a in
+    parts.moved-step (z .args .self) (z .args .x) (z .args .k) (z .args .looked) (z .pre) (a .above .result) (put .change2 .last .0) (walked a)
+    (put .change2 .ensures ∙ ap (λ (l : List ℕ). changedBy 1 l (z .args .self .next)) (put .before .before .change .ensures))
 
 pub moved-spec : {M : Type 1} → statement M
 moved-spec =
@@ -146,8 +116,8 @@ moved-spec =
     cast-next
     slice-aggregate-above
     above-requires
-    put-mark-requires
-    put-mark-requires-2
+    change-requires
+    change-requires-2
     mul-slots
     array-write-slots
     mul-slots-2

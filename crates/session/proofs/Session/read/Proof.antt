@@ -4,14 +4,20 @@ use mathlib.Core.Path.{_≡_, sym, subst, _∙_}
 use mathlib.Core.Logic.{⊎-elim}
 use native.Mathlib.Omega.{arith}
 use Rattle.session.specs.declared.Session.{Session}
-use Rattle.session_soundness.specs.Soundness.{Wide}
-use Rattle.session.proofs.Sound.{Kept, rows-of}
-use Rattle.session.proofs.Taken.{Roomed, room-made, room-there}
-use Rattle.session.proofs.Looked.{searchOf, found}
-use Rattle.session.proofs.Ways.{Accepted, gatherable, refused-way, accepts, moves, known-way, enters, cold-way}
+use Rattle.session.specs.Sessions.{Wide}
+use Rattle.session.proofs.Corresponds.{Facts, sound-facts}
+use Rattle.session.proofs.Ways.{Ready, ready-made, ready-there, searchOf, found, Accepted, gatherable, refused-way, accepts, moves, known-way, enters, cold-way}
 use borrow.Author.Needs.{needs}
 use Rattle.session.proofs.Session.read.Statement.{statement}
 use Rattle.session.proofs.Session.read.Tie as tie
+use Rattle.session.proofs.Session.read.Reads as reads
+use Rattle.session.proofs.Session.read.Lts as lts
+use Rattle.session.proofs.Session.entered.Reads as entered-reads
+use Rattle.session.proofs.Session.gathered.Reads as gathered-reads
+use Rattle.session.proofs.Session.moved.Reads as moved-reads
+use Rattle.session.proofs.Session.refused.Reads as refused-reads
+use Rattle.session_marks.proofs.find.Reads as find-reads
+use Rattle.session_refusals.proofs.refusal.Reads as refusal-reads
 
 -- the start, from the place after the refusals
 abbrev start : tie.After-refusal → tie.Start
@@ -26,24 +32,24 @@ abbrev extent : tie.After-refusal → ℕ
 extent c = start c .args .extent
 
 -- the widths of the session's arrays
-wide : (c : tie.Start) → Wide (c .args .t1 .first) (c .args .t1 .hist) (c .args .t1 .slots) (c .args .t1 .sums)
-wide c = search needs
+wide : (c : tie.Start) → Wide (c .args .t1)
+wide c = record { first-wide = search needs; hist-wide = search needs; slots-wide = search needs; rights-wide = search needs }
 
 -- the read is accepted
 accepted : (c : tie.Else1) → Accepted (given (c .before)) (extent (c .before))
 accepted c = accepts _ (wide (start (c .before))) _ (sym (c .before .refusal .ensures) ∙ c .if1 .left)
 
--- the session's rows are sound
-kept : (c : tie.Else1) → Kept (given (c .before))
-kept c = rows-of _ (wide (start (c .before))) (accepted c .ok)
+-- what the test of the session says
+facts : (c : tie.Else1) → Facts (given (c .before))
+facts c = sound-facts _ (wide (start (c .before))) (accepted c .ok)
 
 -- room is made
-made : (c : tie.Joined2) → Roomed (given (c .before .before)) (c .if2 .self)
+made : (c : tie.Joined2) → Ready (given (c .before .before)) (c .if2 .self)
 made c =
     let s = given (c .before .before) in
     ⊎-elim
-    (λ b. subst (λ (σ : Session). Roomed s σ) (sym (b .2 ∙ b .1 .ensures)) (room-made s (kept (c .before)) (b .0 .taken)))
-    (λ b. subst (λ (σ : Session). Roomed s σ) (sym (b .1)) (room-there s (kept (c .before)) (b .0 .left)))
+    (λ b. subst (λ (σ : Session). Ready s σ) (sym (b .2 ∙ b .1 .ensures)) (ready-made s (facts (c .before)) (b .0 .taken)))
+    (λ b. subst (λ (σ : Session). Ready s σ) (sym (b .1)) (ready-there s (facts (c .before)) (b .0 .left)))
     (c .if2 .came)
 
 -- the place where room is made, from the search
@@ -52,7 +58,7 @@ roomy c = c .before .before .before .before .before .before
 
 -- the search finds the extent's slot
 searched : (c : tie.After-find) → c .find .result ≡ searchOf (roomy c .if2 .self) (extent (roomy c .before .before))
-searched c = c .find .ensures ∙ found (roomy c .if2 .self) (made (roomy c) .kept) (extent (roomy c .before .before))
+searched c = c .find .ensures ∙ found (given (roomy c .before .before)) (roomy c .if2 .self) (made (roomy c)) (extent (roomy c .before .before))
 
 cast-next : tie.Need-cast-next
 cast-next c = search needs
@@ -69,10 +75,10 @@ returns c =
     c .refused .ensures ∙ refused-way _ (wide (start f)) _ _ (f .refusal .ensures) (c .before .if1 .taken)
 
 gathered-requires : tie.Need-gathered-requires
-gathered-requires c κs = gatherable _ (kept (c .before))
+gathered-requires c κs = gatherable _ (facts (c .before))
 
 cast-below : tie.Need-cast-below
-cast-below c = omega (arith, made c .room)
+cast-below c = omega (arith, made c .roomed .room)
 
 find-requires : tie.Need-find-requires
 find-requires c κs = search needs

@@ -1,15 +1,17 @@
--- `session::Session::sound` meets its contract.
+-- `session::Session::sound` meets its contract. The test of its fields is the test of the session.
 use mathlib.Core.Path.{_∙_}
-use Rattle.session_soundness.specs.Soundness.{Wide}
-use Rattle.session.specs.Sessions.{sound}
-use Rattle.session_soundness.proofs.Sound.{intact-wide}
+use Rattle.session.specs.Sessions.{Wide}
+use Rattle.session.proofs.Corresponds.{tested}
 use borrow.Author.Needs.{needs}
 use Rattle.session.proofs.Session.sound.Statement.{statement}
 use Rattle.session.proofs.Session.sound.Tie as tie
+use Rattle.session.proofs.Session.sound.Reads as reads
+use Rattle.session.proofs.Session.sound.Lts as lts
+use Rattle.session_soundness.proofs.intact.Reads as intact-reads
 
 -- the widths of the session's arrays
-wide : (c : tie.Start) → Wide (c .args .t1 .first) (c .args .t1 .hist) (c .args .t1 .slots) (c .args .t1 .sums)
-wide c = search needs
+wide : (c : tie.Start) → Wide (c .args .t1)
+wide c = record { first-wide = search needs; hist-wide = search needs; slots-wide = search needs; rights-wide = search needs }
 
 cast-upto : tie.Need-cast-upto
 cast-upto c = search needs
@@ -18,8 +20,7 @@ intact-requires : tie.Need-intact-requires
 intact-requires c κs = search needs
 
 returns : tie.Need-returns
-unfolding sound
-returns c = c .intact .ensures ∙ intact-wide _ _ _ _ _ _ (wide (c .before .before .before .before .before .before .before .before .before .before))
+returns c = c .intact .ensures ∙ tested _ (wide (c .before .before .before .before .before .before .before .before .before .before))
 
 pub sound-spec : {M : Type 1} → statement M
 sound-spec = tie.close (tie.spec cast-upto intact-requires returns)
