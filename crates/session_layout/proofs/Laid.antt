@@ -5,15 +5,14 @@ use native.Mathlib.Omega.{arith}
 use mathlib.Core.List.{List, [], _∷_, _++_, append-assoc, append-nil}
 use lib.ListN.{length, take, drop, getD, set, length-append, length-take, length-drop, length-replicate, drop-of-length-le}
 use lib.Seq.{drop-at, take-at, take-all, drop-drop, getD-drop}
-use Rattle.reuse.specs.Limits.{maxExtents, slotCount, sumCount}
+use Rattle.reuse.specs.Limits.{maxExtents, slotCount, rightCount}
 use Rattle.reuse_rows.specs.Rows.{putAt, placed, padded}
 use Rattle.reuse_copies.proofs.Padding.{padded-front, padded-wide}
 use Rattle.reuse_copies.proofs.Puts.{put-cons, put-none, put-length, put-over, placed-fits, placed-not}
 use Rattle.session.specs.declared.Session.{Session}
-use Rattle.session.specs.Sessions.{fresh}
-use Rattle.session_soundness.specs.Soundness.{Wide}
+use Rattle.session.specs.Sessions.{fresh, Wide}
 use Rattle.reuse_copies.proofs.Filling.{Filled, fill-step, filled-length}
-use Rattle.session_layout.specs.Layout.{firstPlace, histPlace, slotsPlace, sumsPlace, nextPlace, sessionLength, sessionIn, sessionLaid, part}
+use Rattle.session_layout.specs.Layout.{firstPlace, histPlace, slotsPlace, countPlace, rightsPlace, nextPlace, sessionLength, sessionIn, sessionLaid, part}
 
 -- words as many as the row has places
 pub placed-whole : (row l : List ℕ) → length row ≡ length l → placed row 0 l ≡ l
@@ -46,51 +45,55 @@ lay-step out l row n h m row' n' e w q =
     fill-step out l row n h m row' n' (omega (arith, e)) (omega (arith, e))
     (q ∙ placed-fits row n m (omega (arith, e, filled-length out l row n h)))
 
+-- one more word, set
+pub lay-word : (out l row : List ℕ) (n : ℕ) → Filled out l row n → (x : ℕ) → n + 1 ≤ length out → Filled out (l ++ (x ∷ [])) (set row n x) (n + 1)
+lay-word out l row n h x w =
+    let e : set row n x ≡ putAt row n (x ∷ []) =
+    sym (put-cons row n x [] (omega (arith, w, filled-length out l row n h)) ∙ put-none (set row n x) (n + 1)) in
+    fill-step out l row n h (x ∷ []) (set row n x) (n + 1) w refl e
+
 -- the widths of a new session
-pub fresh-wide : Wide (fresh .first) (fresh .hist) (fresh .slots) (fresh .sums)
+pub fresh-wide : Wide fresh
 fresh-wide = record {
   first-wide = length-replicate {A = ℕ} maxExtents 0;
   hist-wide = length-replicate {A = ℕ} maxExtents 0;
   slots-wide = length-replicate {A = ℕ} slotCount 0;
-  sums-wide = length-replicate {A = ℕ} sumCount 0;
+  rights-wide = length-replicate {A = ℕ} rightCount 0;
 }
 
-module _ (s : Session) (wide : Wide (s .first) (s .hist) (s .slots) (s .sums)) where
+module _ (s : Session) (wide : Wide s) where
   -- the parts, one after the other, are the session's words
   pub laid-filled : (out row : List ℕ) (n : ℕ)
-      → Filled out ((((((s .reads ∷ []) ++ s .first) ++ s .hist) ++ s .slots) ++ s .sums) ++ (s .next ∷ [])) row n
+      → Filled out (((((((s .reads ∷ []) ++ s .first) ++ s .hist) ++ s .slots) ++ (s .count ∷ [])) ++ s .rights) ++ (s .next ∷ [])) row n
       → row ≡ putAt out 0 (sessionLaid s)
   unfolding sessionLaid
   laid-filled out row n w = w .same ∙ ap (putAt out 0) (simp append-assoc)
 
-  -- the parts up to the sums
+  -- the parts up to the right-hand sums
   abbrev pub laidParts : List ℕ
-  laidParts = ((((s .reads ∷ []) ++ s .first) ++ s .hist) ++ s .slots) ++ s .sums
+  laidParts = (((((s .reads ∷ []) ++ s .first) ++ s .hist) ++ s .slots) ++ (s .count ∷ [])) ++ s .rights
 
   -- each part is placed after the last
   pub laid-parts : (out r₁ r₂ r₃ r₄ : List ℕ) → sessionLength ≤ length out
       → r₁ ≡ placed (set out 0 (s .reads)) firstPlace (s .first) → r₂ ≡ placed r₁ histPlace (s .hist)
-      → r₃ ≡ placed r₂ slotsPlace (s .slots) → r₄ ≡ placed r₃ sumsPlace (s .sums) → Filled out laidParts r₄ nextPlace
+      → r₃ ≡ placed r₂ slotsPlace (s .slots) → r₄ ≡ placed (set r₃ countPlace (s .count)) rightsPlace (s .rights) → Filled out laidParts r₄ nextPlace
   laid-parts out r₁ r₂ r₃ r₄ l e₁ e₂ e₃ e₄ =
       let f₀ = lay-start out (s .reads) (omega (arith, l)) in
       let f₁ = lay-step out _ _ 1 f₀ (s .first) r₁ histPlace (omega (arith, wide .first-wide)) (omega (arith, l)) e₁ in
       let f₂ = lay-step out _ _ histPlace f₁ (s .hist) r₂ slotsPlace (omega (arith, wide .hist-wide)) (omega (arith, l)) e₂ in
-      let f₃ = lay-step out _ _ slotsPlace f₂ (s .slots) r₃ sumsPlace (omega (arith, wide .slots-wide)) (omega (arith, l)) e₃ in
-      lay-step out _ _ sumsPlace f₃ (s .sums) r₄ nextPlace (omega (arith, wide .sums-wide)) (omega (arith, l)) e₄
+      let f₃ = lay-step out _ _ slotsPlace f₂ (s .slots) r₃ countPlace (omega (arith, wide .slots-wide)) (omega (arith, l)) e₃ in
+      let f₄ = lay-word out _ _ countPlace f₃ (s .count) (omega (arith, l)) in
+      lay-step out _ _ rightsPlace f₄ (s .rights) r₄ nextPlace (omega (arith, wide .rights-wide)) (omega (arith, l)) e₄
 
   -- the next slot comes last
   pub laid-last : (out row : List ℕ) → sessionLength ≤ length out → Filled out laidParts row nextPlace
       → set row nextPlace (s .next) ≡ putAt out 0 (sessionLaid s)
-  laid-last out row l f =
-      let w : nextPlace < length row = omega (arith, l, filled-length out _ row nextPlace f) in
-      let e : set row nextPlace (s .next) ≡ putAt row nextPlace (s .next ∷ []) =
-      sym (put-cons row nextPlace (s .next) [] w ∙ put-none (set row nextPlace (s .next)) (nextPlace + 1)) in
-      laid-filled out _ sessionLength (fill-step out _ row nextPlace f (s .next ∷ []) _ sessionLength (omega (arith, l)) refl e)
+  laid-last out row l f = laid-filled out _ sessionLength (lay-word out _ row nextPlace f (s .next) l)
 
   -- as many as a session has
   pub laid-length : length (sessionLaid s) ≡ sessionLength
   unfolding sessionLaid
-  laid-length = simp (length-append, wide .first-wide, wide .hist-wide, wide .slots-wide, wide .sums-wide)
+  laid-length = simp (length-append, wide .first-wide, wide .hist-wide, wide .slots-wide, wide .rights-wide)
 
   -- a row with room for them takes them
   pub laid-fits : (w : List ℕ) → sessionLength ≤ length w → placed w 0 (sessionLaid s) ≡ putAt w 0 (sessionLaid s)
@@ -105,11 +108,14 @@ module _ (s : Session) (wide : Wide (s .first) (s .hist) (s .slots) (s .sums)) w
   laid-not w l = placed-not w 0 (sessionLaid s) (omega (arith, l, laid-length))
 
   module _ (rest : List ℕ) where
-    abbrev on-sums : List ℕ
-    on-sums = s .sums ++ (s .next ∷ rest)
+    abbrev on-rights : List ℕ
+    on-rights = s .rights ++ (s .next ∷ rest)
+
+    abbrev on-count : List ℕ
+    on-count = s .count ∷ on-rights
 
     abbrev on-slots : List ℕ
-    on-slots = s .slots ++ on-sums
+    on-slots = s .slots ++ on-count
 
     abbrev on-hist : List ℕ
     on-hist = s .hist ++ on-slots
@@ -131,18 +137,25 @@ module _ (s : Session) (wide : Wide (s .first) (s .hist) (s .slots) (s .sums)) w
         skip (s .first) on-hist maxExtents maxExtents (wide .first-wide)
         ∙ drop-at (s .hist) on-slots maxExtents (wide .hist-wide)
 
-    to-sums : drop (maxExtents + (maxExtents + slotCount)) on-first ≡ on-sums
-    to-sums =
+    to-count : drop (maxExtents + (maxExtents + slotCount)) on-first ≡ on-count
+    to-count =
         skip (s .first) on-hist maxExtents (maxExtents + slotCount) (wide .first-wide)
         ∙ skip (s .hist) on-slots maxExtents slotCount (wide .hist-wide)
-        ∙ drop-at (s .slots) on-sums slotCount (wide .slots-wide)
+        ∙ drop-at (s .slots) on-count slotCount (wide .slots-wide)
 
-    to-next : drop (maxExtents + (maxExtents + (slotCount + sumCount))) on-first ≡ s .next ∷ rest
+    to-rights : drop (maxExtents + (maxExtents + (slotCount + 1))) on-first ≡ on-rights
+    to-rights =
+        skip (s .first) on-hist maxExtents (maxExtents + (slotCount + 1)) (wide .first-wide)
+        ∙ skip (s .hist) on-slots maxExtents (slotCount + 1) (wide .hist-wide)
+        ∙ skip (s .slots) on-count slotCount 1 (wide .slots-wide)
+
+    to-next : drop (maxExtents + (maxExtents + (slotCount + (1 + rightCount)))) on-first ≡ s .next ∷ rest
     to-next =
-        skip (s .first) on-hist maxExtents (maxExtents + (slotCount + sumCount)) (wide .first-wide)
-        ∙ skip (s .hist) on-slots maxExtents (slotCount + sumCount) (wide .hist-wide)
-        ∙ skip (s .slots) on-sums slotCount sumCount (wide .slots-wide)
-        ∙ drop-at (s .sums) (s .next ∷ rest) sumCount (wide .sums-wide)
+        skip (s .first) on-hist maxExtents (maxExtents + (slotCount + (1 + rightCount))) (wide .first-wide)
+        ∙ skip (s .hist) on-slots maxExtents (slotCount + (1 + rightCount)) (wide .hist-wide)
+        ∙ skip (s .slots) on-count slotCount (1 + rightCount) (wide .slots-wide)
+        ∙ skip (s .count ∷ []) on-rights 1 rightCount refl
+        ∙ drop-at (s .rights) (s .next ∷ rest) rightCount (wide .rights-wide)
 
     -- the session is read back from them
     pub read-laid : sessionIn (sessionLaid s ++ rest) ≡ s
@@ -151,9 +164,10 @@ module _ (s : Session) (wide : Wide (s .first) (s .hist) (s .slots) (s .sums)) w
       reads = s .reads;
       first = take-at (s .first) on-hist maxExtents (wide .first-wide) i;
       hist = (ap (take maxExtents) to-hist ∙ take-at (s .hist) on-slots maxExtents (wide .hist-wide)) i;
-      slots = (ap (take slotCount) to-slots ∙ take-at (s .slots) on-sums slotCount (wide .slots-wide)) i;
-      sums = (ap (take sumCount) to-sums ∙ take-at (s .sums) (s .next ∷ rest) sumCount (wide .sums-wide)) i;
-      next = (sym (getD-drop (maxExtents + (maxExtents + (slotCount + sumCount))) on-first 0 0) ∙ ap (λ (l : List ℕ). getD l 0 0) to-next) i;
+      slots = (ap (take slotCount) to-slots ∙ take-at (s .slots) on-count slotCount (wide .slots-wide)) i;
+      count = (sym (getD-drop (maxExtents + (maxExtents + slotCount)) on-first 0 0) ∙ ap (λ (l : List ℕ). getD l 0 0) to-count) i;
+      rights = (ap (take rightCount) to-rights ∙ take-at (s .rights) (s .next ∷ rest) rightCount (wide .rights-wide)) i;
+      next = (sym (getD-drop (maxExtents + (maxExtents + (slotCount + (1 + rightCount)))) on-first 0 0) ∙ ap (λ (l : List ℕ). getD l 0 0) to-next) i;
     })
 
   -- laid into words and read back
@@ -166,7 +180,7 @@ module _ (s : Session) (wide : Wide (s .first) (s .hist) (s .slots) (s .sums)) w
   read-whole = ap sessionIn (sym (append-nil (sessionLaid s))) ∙ read-laid []
 
 -- one session's words over another's
-pub laid-over : (s r : Session) → Wide (s .first) (s .hist) (s .slots) (s .sums) → Wide (r .first) (r .hist) (r .slots) (r .sums)
+pub laid-over : (s r : Session) → Wide s → Wide r
     → (w : List ℕ) → sessionLength ≤ length w → putAt (putAt w 0 (sessionLaid s)) 0 (sessionLaid r) ≡ putAt w 0 (sessionLaid r)
 laid-over s r v u w l =
     put-over w 0 (sessionLaid s) (omega (arith, l, laid-length s v)) (sessionLaid r) (laid-length r u ∙ sym (laid-length s v))

@@ -4,12 +4,12 @@ use mathlib.Core.Bool.{cond}
 use mathlib.Core.List.{List, [], _∷_, _++_}
 use lib.Dec.{leb}
 use lib.ListN.{length, take, drop, getD}
-use Rattle.reuse.specs.Limits.{maxExtents, slotCount, sumCount}
+use Rattle.reuse.specs.Limits.{maxExtents, slotCount, rightCount}
 use Rattle.session.specs.declared.Session.{Session}
 use Rattle.session.specs.Sessions.{fresh}
 use Rattle.session_layout.specs.declared.Kept.{Kept}
 
--- where F, H, the slots, the sums and the next slot stand, after the reads
+-- where F, H, the slots, the count, the right-hand sums and the next slot stand, after the reads
 abbrev pub firstPlace : ℕ
 firstPlace = 1
 
@@ -19,11 +19,14 @@ histPlace = firstPlace + maxExtents
 abbrev pub slotsPlace : ℕ
 slotsPlace = histPlace + maxExtents
 
-abbrev pub sumsPlace : ℕ
-sumsPlace = slotsPlace + slotCount
+abbrev pub countPlace : ℕ
+countPlace = slotsPlace + slotCount
+
+abbrev pub rightsPlace : ℕ
+rightsPlace = countPlace + 1
 
 abbrev pub nextPlace : ℕ
-nextPlace = sumsPlace + sumCount
+nextPlace = rightsPlace + rightCount
 
 -- the words of a session
 abbrev pub sessionLength : ℕ
@@ -40,7 +43,8 @@ sessionIn w = record {
   first = part firstPlace maxExtents w;
   hist = part histPlace maxExtents w;
   slots = part slotsPlace slotCount w;
-  sums = part sumsPlace sumCount w;
+  count = getD w countPlace 0;
+  rights = part rightsPlace rightCount w;
   next = getD w nextPlace 0;
 }
 
@@ -51,6 +55,6 @@ keptIn w = record {
   session = cond (leb sessionLength (length w)) (sessionIn w) fresh;
 }
 
--- the words of a session: L, F, H, the slots, the sums, the next slot
+-- the words of a session: L, F, H, the slots, the count, the right-hand sums, the next slot
 unfoldable pub sessionLaid : Session → List ℕ
-sessionLaid s = s .reads ∷ (s .first ++ (s .hist ++ (s .slots ++ (s .sums ++ (s .next ∷ [])))))
+sessionLaid s = s .reads ∷ (s .first ++ (s .hist ++ (s .slots ++ (s .count ∷ (s .rights ++ (s .next ∷ []))))))

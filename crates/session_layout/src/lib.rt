@@ -4,16 +4,18 @@ ghost use mathlib.Core.Path.{_≡_};
 ghost use Rattle.reuse_rows.specs.Rows.{placed};
 ghost use Rattle.session_layout.specs.Layout.{keptIn, sessionLaid};
 
-// Where F, H, the slots, the sums and the next slot stand in a session's words, after its reads.
+// Where F, H, the slots, the count, the right-hand sums and the next slot stand in a session's words, after its reads.
 const FIRST: usize = 1;
 
 const HIST: usize = FIRST + reuse::MAX_EXTENTS;
 
 const SLOTS: usize = HIST + reuse::MAX_EXTENTS;
 
-const SUMS: usize = SLOTS + reuse::SLOTS;
+const COUNT: usize = SLOTS + reuse::SLOTS;
 
-const NEXT: usize = SUMS + reuse::SUMS;
+const RIGHTS: usize = COUNT + 1;
+
+const NEXT: usize = RIGHTS + reuse::RIGHTS;
 
 // The words of a session.
 pub const SESSION: usize = NEXT + 1;
@@ -38,17 +40,19 @@ pub fn session_in(words: &[u32]) -> Kept
     let first = reuse_copies::padded(&words[FIRST..HIST]);
     let hist = reuse_copies::padded(&words[HIST..SLOTS]);
     let mut slots = [0u32; reuse::SLOTS];
-    let mut sums = [0u32; reuse::SUMS];
-    reuse_copies::put(&mut slots, 0, &words[SLOTS..SUMS]);
-    reuse_copies::put(&mut sums, 0, &words[SUMS..NEXT]);
+    let mut rights = [0u32; reuse::RIGHTS];
+    reuse_copies::put(&mut slots, 0, &words[SLOTS..COUNT]);
+    reuse_copies::put(&mut rights, 0, &words[RIGHTS..NEXT]);
     let reads = words[0];
+    let count = words[COUNT];
     let next = words[NEXT];
     let session = Session {
         reads,
         first,
         hist,
         slots,
-        sums,
+        count,
+        rights,
         next,
     };
     Kept {
@@ -68,6 +72,7 @@ pub fn put_session(words: &mut [u32], s: Session)
     reuse_copies::put(words, FIRST, &s.first);
     reuse_copies::put(words, HIST, &s.hist);
     reuse_copies::put(words, SLOTS, &s.slots);
-    reuse_copies::put(words, SUMS, &s.sums);
+    words[COUNT] = s.count;
+    reuse_copies::put(words, RIGHTS, &s.rights);
     words[NEXT] = s.next;
 }

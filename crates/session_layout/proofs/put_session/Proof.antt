@@ -3,16 +3,19 @@ use mathlib.Core.Path.{_≡_, sym, _∙_}
 use Prim.Native.Nat.{_≤_}
 use native.Mathlib.Omega.{arith}
 use lib.ListN.{length, length-set}
-use Rattle.session_soundness.specs.Soundness.{Wide}
+use Rattle.session.specs.Sessions.{Wide}
 use Rattle.session_layout.specs.Layout.{sessionLength}
 use Rattle.session_layout.proofs.Laid.{laid-parts, laid-last, laid-fits, laid-not}
 use borrow.Author.Needs.{needs}
 use Rattle.session_layout.proofs.put_session.Statement.{statement}
 use Rattle.session_layout.proofs.put_session.Tie as tie
+use Rattle.session_layout.proofs.put_session.Reads as reads
+use Rattle.session_layout.proofs.put_session.Lts as lts
+use Rattle.reuse_copies.proofs.put.Reads as put-reads
 
 -- the session has its widths
-wide : (c : tie.Start) → Wide (c .args .t2 .first) (c .args .t2 .hist) (c .args .t2 .slots) (c .args .t2 .sums)
-wide c = search needs
+wide : (c : tie.Start) → Wide (c .args .t2)
+wide c = record { first-wide = search needs; hist-wide = search needs; slots-wide = search needs; rights-wide = search needs }
 
 returns : tie.Need-returns
 returns c = let a = c .before .before in sym (laid-not (a .args .t2) (wide a) _ (c .if1 .taken))
@@ -29,45 +32,59 @@ put-requires-2 c κs = search needs
 put-requires-3 : tie.Need-put-requires-3
 put-requires-3 c κs = search needs
 
+-- the place before the first part is put, from the place after the slots
+abbrev slots-room : tie.After-slice-known4 → tie.Else1
+slots-room c =
+    let d = c .before .before in
+    let e = d .before .before .before .before .before .before .before in
+    e .before .before .before .before .before .before .before .before .before .before .before .before
+
+-- there is room for the session
+slots-enough : (c : tie.After-slice-known4) → sessionLength ≤ length (slots-room c .before .before .args .words .now)
+slots-enough c = slots-room c .if1 .left
+
+-- the row keeps its length
+slots-long : (c : tie.After-slice-known4) → length (c .before .before .put3 .last .0) ≡ length (slots-room c .before .before .args .words .now)
+slots-long c =
+    let q = c .before .before in
+    let r = q .before .before .before .before .before .before .before in
+    let s = r .before .before .before .before .before .before .before in
+    q .put3 .kept .0 ∙ r .put2 .kept .0 ∙ s .put .kept .0 ∙ length-set (slots-room c .before .before .args .words .now) 0 _
+
+slice-write-words-2 : tie.Need-slice-write-words-2
+slice-write-words-2 c = omega (arith, slots-enough c, slots-long c)
+
 put-requires-4 : tie.Need-put-requires-4
 put-requires-4 c κs = search needs
 
--- the place before the first part is put
-abbrev room : tie.After-slice-known5 → tie.Else1
-room c =
-    let d = c .before .before in
-    let e = d .before .before .before .before .before .before .before in
-    let f = e .before .before .before .before .before .before .before in
-    f .before .before .before .before .before .before .before .before .before .before .before .before
+-- the place after the slots, from the one after the right-hand sums
+abbrev slots : tie.After-slice-known5 → tie.After-slice-known4
+slots c = c .before .before .before .before .before .before .before
 
 -- the row and the session handed in
 abbrev start : tie.After-slice-known5 → tie.Start
-start c = room c .before .before
+start c = slots-room (slots c) .before .before
 
 -- there is room for it
 enough : (c : tie.After-slice-known5) → sessionLength ≤ length (start c .args .words .now)
-enough c = room c .if1 .left
+enough c = slots-enough (slots c)
 
 -- the row keeps its length
 long : (c : tie.After-slice-known5) → length (c .before .before .put4 .last .0) ≡ length (start c .args .words .now)
 long c =
-    let p = c .before .before in
-    let q = p .before .before .before .before .before .before .before in
-    let r = q .before .before .before .before .before .before .before in
-    let s = r .before .before .before .before .before .before .before in
-    p .put4 .kept .0 ∙ q .put3 .kept .0 ∙ r .put2 .kept .0 ∙ s .put .kept .0 ∙ length-set (start c .args .words .now) 0 _
+    let q = slots c .before .before in
+    c .before .before .put4 .kept .0 ∙ length-set (q .put3 .last .0) _ _ ∙ slots-long (slots c)
 
-slice-write-words-2 : tie.Need-slice-write-words-2
-slice-write-words-2 c = omega (arith, enough c, long c)
+slice-write-words-3 : tie.Need-slice-write-words-3
+slice-write-words-3 c = omega (arith, enough c, long c)
 
 same-length : tie.Need-same-length
 same-length c = simp length-set (long c)
 
--- the parts are put one after the other
 returns-2 : tie.Need-returns-2
 returns-2 c =
     let p = c .before .before in
-    let q = p .before .before .before .before .before .before .before in
+    let q = slots c .before .before in
     let r = q .before .before .before .before .before .before .before in
     let s = r .before .before .before .before .before .before .before in
     let t = start c .args .t2 in
@@ -84,7 +101,8 @@ put-session-spec =
     put-requires
     put-requires-2
     put-requires-3
-    put-requires-4
     slice-write-words-2
+    put-requires-4
+    slice-write-words-3
     same-length
     returns-2)

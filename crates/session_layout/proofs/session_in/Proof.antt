@@ -3,8 +3,8 @@ use mathlib.Core.Path.{sym, _∙_}
 use mathlib.Core.Bool.{true, false}
 use native.Mathlib.Omega.{arith}
 use lib.ListN.{getD}
-use Rattle.reuse.specs.Limits.{maxExtents, slotCount, sumCount}
-use Rattle.session_layout.specs.Layout.{firstPlace, histPlace, slotsPlace, sumsPlace, nextPlace, part, sessionIn}
+use Rattle.reuse.specs.Limits.{maxExtents, slotCount, rightCount}
+use Rattle.session_layout.specs.Layout.{firstPlace, histPlace, slotsPlace, countPlace, rightsPlace, nextPlace, part, sessionIn}
 use Rattle.session_layout.proofs.Laid.{placed-whole, padded-whole, part-length}
 use Rattle.session_layout.proofs.Enough.{kept-short, kept-all}
 use borrow.Author.Needs.{needs}
@@ -74,13 +74,16 @@ put-requires-2 c κs = search needs
 shared-slice-read-reads : tie.Need-shared-slice-read-reads
 shared-slice-read-reads c = search needs
 
+shared-slice-read-count : tie.Need-shared-slice-read-count
+shared-slice-read-count c = search needs
+
 shared-slice-read-next : tie.Need-shared-slice-read-next
 shared-slice-read-next c = search needs
 
 returns-2 : tie.Need-returns-2
 unfolding sessionIn part
 returns-2 c =
-    let p = c .before .before .before in
+    let p = c .before .before .before .before in
     let q = p .before .before .before .before in
     let r = q .before .before .before in
     let s = r .before .before in
@@ -94,7 +97,8 @@ returns-2 c =
         first = (s .padded .ensures ∙ padded-whole _ (part-length w firstPlace maxExtents (omega (arith, l)))) i;
         hist = (r .padded2 .ensures ∙ padded-whole _ (part-length w histPlace maxExtents (omega (arith, l)))) i;
         slots = (q .put .ensures ∙ placed-whole _ _ (part-length w slotsPlace slotCount (omega (arith, l)))) i;
-        sums = (p .put2 .ensures ∙ placed-whole _ _ (part-length w sumsPlace sumCount (omega (arith, l)))) i;
+        count = getD w countPlace 0;
+        rights = (p .put2 .ensures ∙ placed-whole _ _ (part-length w rightsPlace rightCount (omega (arith, l)))) i;
         next = getD w nextPlace 0;
       };
     }) ∙ sym (kept-all w l)
@@ -124,5 +128,6 @@ session-in-spec =
     part-put-end-2
     put-requires-2
     shared-slice-read-reads
+    shared-slice-read-count
     shared-slice-read-next
     returns-2)
