@@ -1,13 +1,13 @@
 -- The session and the one with all sums: each gives the other, and what is sound of one is sound of the other.
-use Prim.Native.Nat.{ℕ, _+_, _-_, _≤_}
-use mathlib.Core.Path.{_≡_, refl, sym, ap, subst, _∙_}
+use Prim.Native.Nat.{ℕ, _-_, _≤_}
+use mathlib.Core.Path.{_≡_, refl, sym, ap, _∙_}
 use mathlib.Core.List.{List}
-use mathlib.Core.Bool.{true, false, cond, _&&_}
+use mathlib.Core.Bool.{true}
 use native.Mathlib.Omega.{arith}
-use lib.ListN.{length, replicate, length-replicate}
+use lib.ListN.{replicate}
 use Rattle.reuse.specs.Lists.{sum}
 use Rattle.reuse.specs.Limits.{maxReads, maxExtents, slotCount, rightCount, levels}
-use Rattle.session_sums.specs.Sums.{sumsOf, same}
+use Rattle.session_sums.specs.Sums.{sumsOf}
 use Rattle.session_rights.specs.Rights.{rightsOf, marksFrom, rightly, Gives}
 use Rattle.session_soundness.specs.Soundness.{soundRows, intactRows}
 use Rattle.session_calls.specs.Sessions as full
@@ -18,8 +18,7 @@ use Rattle.session.specs.Sessions.{Wide, newOf, marks, oldOf, fresh, sou
 use Rattle.session.specs.Reads.{newStep, readOf}
 use Rattle.session.specs.Steps.{Summed}
 use Rattle.reuse.proofs.Lists.{both}
-use Rattle.session_sums.proofs.Tests.{same-of}
-use Rattle.session_sums.proofs.Tree.{full as all-leaves, take-sums, length-sums}
+use Rattle.session_sums.proofs.Tree.{take-sums}
 use Rattle.session_rights.proofs.Rights.{rights-length, marks-back, gives-rightly}
 use Rattle.session_rights.proofs.Trees.{rights-none}
 use Rattle.session_marks.proofs.Marks.{row-zero-one}

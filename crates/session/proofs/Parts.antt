@@ -8,7 +8,7 @@ use lib.ListN.{length, drop, getD, set, replicate, length-append, length-replica
 use lib.Seq.{getD-set-other}
 use Rattle.reuse.specs.Lists.{sum}
 use Rattle.reuse.specs.Lru.{cold, at}
-use Rattle.reuse.specs.Limits.{maxExtents, slotCount, rightCount, levels}
+use Rattle.reuse.specs.Limits.{slotCount, rightCount, levels}
 use Rattle.session_sums.specs.Sums.{sumsOf, filled, zeros, firstMarks}
 use Rattle.session_rights.specs.Rights.{rightsOf, marksFrom}
 use Rattle.session_rights.specs.Ways.{fromLeft}
@@ -24,7 +24,7 @@ use Rattle.session_calls.specs.Reads as full-reads
 use Rattle.session_calls.specs.Reads.{stepAt}
 use Rattle.session.specs.declared.Session.{Session}
 use Rattle.session.specs.declared.Step.{Step}
-use Rattle.session.specs.Sessions.{newOf, oldOf}
+use Rattle.session.specs.Sessions.{oldOf}
 use Rattle.session.specs.Reads.{newStep, gathered, slotOf}
 use Rattle.session.specs.Steps.{Summed, Movable, Enterable, Gatherable}
 use Rattle.session_sums.proofs.Filled.{sum-filled, sum-ones, filled-ones, first-marks}

@@ -17,9 +17,8 @@ use Rattle.session_refusals.specs.Refusals.{overfull, refusalOf}
 use Rattle.session_calls.specs.Sessions as full
 use Rattle.session_calls.specs.Sessions.{FullSession}
 use Rattle.session_calls.specs.Reads as full-reads
-use Rattle.session_calls.specs.Reads.{FullStep, stepAt, taken, tooMany}
+use Rattle.session_calls.specs.Reads.{stepAt, taken, tooMany}
 use Rattle.session.specs.declared.Session.{Session}
-use Rattle.session.specs.declared.Step.{Step}
 use Rattle.session.specs.Sessions.{Wide, newOf, marks, oldOf, sound}
 use Rattle.session.specs.Reads.{newStep, gathered, slotOf, lookedAt, refused, readOf}
 use Rattle.session.specs.Steps.{Summed, Movable, Enterable, Gatherable}

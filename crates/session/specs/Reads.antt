@@ -2,6 +2,7 @@
 use Prim.Native.Nat.{ℕ}
 use mathlib.Core.List.{List}
 use mathlib.Core.Bool.{cond}
+use Rattle.reuse.specs.Lru.{Reuse}
 use Rattle.session_calls.specs.declared.Answer.the-variants.{Refused}
 use Rattle.session_calls.specs.Reads as full
 use Rattle.session_calls.specs.Reads.{FullStep}
@@ -28,6 +29,10 @@ slotOf s x = full.slotOf (oldOf s) x
 -- the slots that the search for x looks at, one by one
 abbrev pub lookedAt : Session → ℕ → List ℕ
 lookedAt s x = full.lookedAt (oldOf s) x
+
+-- a read that is accepted, by the place of x in the LRU stack
+abbrev pub stepAt : Session → ℕ → Reuse → Step
+stepAt s x r = newStep (full.stepAt (oldOf s) x r)
 
 -- the refusal n, with the session as it was
 abbrev pub refused : Session → ℕ → Step

@@ -4,3 +4,4 @@ pub mod Looked
 pub mod Stands
 pub mod Read
 pub mod Looks
+pub mod Summaries

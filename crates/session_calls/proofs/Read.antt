@@ -6,16 +6,15 @@ use mathlib.Core.Bool.{Bool, true, false, cond, not, _&&_}
 use native.Mathlib.Omega.{arith}
 use lib.Dec.{eqb}
 use lib.ListN.{length, length-append}
-use borrow.Author.Tests.{eq-eqb, ne-eqb, eqb-true, eqb-false, not-true}
+use borrow.Author.Tests.{ne-eqb, eqb-false}
 use Rattle.reuse.specs.Lists.{mem, firsts}
-use Rattle.reuse.specs.Lru.{Reuse, cold, at, depth, stack}
+use Rattle.reuse.specs.Lru.{at, depth, stack}
 use Rattle.reuse.specs.Limits.{maxReads, maxExtents, slotCount, levels}
 use Rattle.session_calls.specs.Sessions.{FullSession, FullWide, marks, extents, stackOf, sound}
-use Rattle.session_calls.specs.Reads.{FullStep, roomed, slotOf, stepAt, taken, refused, tooMany, readOf}
-use Rattle.session_calls.specs.declared.Answer.{Answer}
-use Rattle.session_calls.specs.declared.Answer.the-variants.{Distance, Refused}
+use Rattle.session_calls.specs.Reads.{roomed, slotOf, stepAt, taken, refused, tooMany, readOf}
+use Rattle.session_calls.specs.declared.Answer.the-variants.{Distance}
 use Rattle.session_calls.specs.Walks.{onTheWay, totalAt, Walks}
-use Rattle.reuse.proofs.Lists.{by-test, both}
+use Rattle.reuse.proofs.Lists.{by-test}
 use Rattle.reuse.proofs.Stack.{mem-stack}
 use Rattle.session_sums.proofs.Tree.{full}
 use Rattle.session_sums.proofs.Walks.{neighbours-count, neighbours-total}
@@ -133,53 +132,3 @@ module _ (s : FullSession) (t : List ℕ) (g : Stands s t) (x : ℕ) where
       (λ new. let f : eqb (length (firsts t)) maxExtents ≡ false = simp new at few in
       omega (arith, m .counted, known-extents s t h, kept-few s (h .kept), eqb-false (length (firsts t)) maxExtents f)))
       (simp length-append (omega (arith, g .counted, true-sound s (g .wide) (g .is-sound) .short, eqb-false (length t) maxReads short))))
-
--- an accepted read's answer is no refusal
-accepted : (s : FullSession) (x : ℕ) (r : Reuse) (n : ℕ) → stepAt s x r .answer ≡ Refused n → ⊥
-accepted s x (cold m) n e = let z : _≡_ {A = ℕ} 0 1 = cc in omega arith
-accepted s x (at d) n e = let z : _≡_ {A = ℕ} 0 1 = cc in omega arith
-
--- refusals of one answer have one number
-one-number : (m n : ℕ) → Refused m ≡ Refused n → m ≡ n
-one-number m n e = cc
-
--- the answer of an equal step
-answered : {r q : FullStep} {a : Answer} → r ≡ q → r .answer ≡ a → q .answer ≡ a
-answered e a = ap (λ (p : FullStep). p .answer) (sym e) ∙ a
-
--- what a read makes of a session that has read t: 8, or else 9, or else t one read on
-pub record Refines (s : FullSession) (t : List ℕ) (x : ℕ) : Type 0 where
-  pub full : length t ≡ maxReads → readOf s x ≡ refused s 8
-  pub many : (length t ≡ maxReads → ⊥) → mem x t ≡ false → length (firsts t) ≡ maxExtents → readOf s x ≡ refused s 9
-  pub taken : (length t ≡ maxReads → ⊥) → (mem x t ≡ false → length (firsts t) ≡ maxExtents → ⊥)
-      → (readOf s x ≡ stepAt (roomed s) x (depth (stack t) x)) × Stands (readOf s x .session) (t ++ (x ∷ []))
-  pub only-full : readOf s x .answer ≡ Refused 8 → length t ≡ maxReads
-  pub only-many : readOf s x .answer ≡ Refused 9 → (length t ≡ maxReads → ⊥) × (mem x t ≡ false) × (length (firsts t) ≡ maxExtents)
-
--- every read of a session that has read a trace is one of these
-pub read-refines : (s : FullSession) (t : List ℕ) (x : ℕ) → Stands s t → Refines s t x
-read-refines s t x g = record {
-  full = λ e. read-full s t g x (eq-eqb (length t) maxReads e);
-  many = λ short new e. read-many s t g x (ne-eqb (length t) maxReads short) (simp (new, eq-eqb (length (firsts t)) maxExtents e));
-  taken = λ short few.
-      let e = ne-eqb (length t) maxReads short in
-      let f = fits few in
-      (read-taken s t g x e f, read-stands s t g x e f);
-  only-full = λ a.
-      by-test (eqb (length t) maxReads) (λ e. eqb-true (length t) maxReads e)
-      (λ e. by-test (over t x)
-      (λ f. absurd (omega (arith, one-number 9 8 (answered (read-many s t g x e f) a))))
-      (λ f. absurd (accepted (roomed s) x (depth (stack t) x) 8 (answered (read-taken s t g x e f) a))));
-  only-many = λ a.
-      by-test (eqb (length t) maxReads)
-      (λ e. absurd (omega (arith, one-number 8 9 (answered (read-full s t g x e) a))))
-      (λ e. by-test (over t x)
-      (λ f. let p = both (not (mem x t)) (eqb (length (firsts t)) maxExtents) f in
-      (eqb-false (length t) maxReads e, not-true (mem x t) (p .0), eqb-true (length (firsts t)) maxExtents (p .1)))
-      (λ f. absurd (accepted (roomed s) x (depth (stack t) x) 9 (answered (read-taken s t g x e f) a))));
-}
-  where
-    fits : (mem x t ≡ false → length (firsts t) ≡ maxExtents → ⊥) → over t x ≡ false
-    fits few =
-        by-test (mem x t) (λ m. simp m)
-        (λ m. simp (m, ne-eqb (length (firsts t)) maxExtents (few m)))

@@ -2,3 +2,4 @@ pub mod Sessions
 pub mod Reads
 pub mod Walks
 pub mod Looks
+pub mod Summaries

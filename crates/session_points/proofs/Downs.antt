@@ -1,16 +1,14 @@
 -- The marks worked out from the root down, level by level.
 use Prim.Native.Nat.{ℕ, zero, suc, _+_, _-_, _*_, _^_, _≤_, _<_}
 use mathlib.Core.Path.{_≡_, refl, sym, ap, _∙_}
-use mathlib.Core.List.{List, [], _∷_, _++_}
-use mathlib.Core.Bool.{Bool, true, false, cond, _&&_, and-true, and-false}
+use mathlib.Core.List.{List, [], _∷_}
+use mathlib.Core.Bool.{Bool, true, false, _&&_}
 use native.Mathlib.Omega.{arith}
-use lib.Dec.{eqb}
 use lib.ListN.{length, take, drop, set, replicate, length-append, length-drop, length-set, length-replicate}
 use lib.Seq.{take-at, take-all, length-take-le}
 use borrow.Author.Tests.{eq-eqb, ne-eqb}
 use Rattle.reuse.specs.Limits.{slotCount, rightCount, levels}
 use Rattle.session_rights.specs.Rights.{children, marksFrom, noneAbove, inTotals}
-use Rattle.session_points.specs.declared.Worked.{Worked}
 use Rattle.session_points.specs.Points.{workedOut, Level}
 use Rattle.session_rights.proofs.Levels.{power-pos, length-children}
 use Rattle.session_rights.proofs.Totals.{level-down, test-down}

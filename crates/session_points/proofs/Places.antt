@@ -1,6 +1,6 @@
 -- A node on a way up: its number, and the level that it stands on.
 use Prim.Native.Nat.{ℕ, zero, suc, _+_, _/_, _%_, _^_, _<_}
-use mathlib.Core.Path.{_≡_, refl}
+use mathlib.Core.Path.{_≡_}
 use native.Mathlib.Omega.{arith}
 
 -- node p is child s of a level with d levels above it, whose points stand from b on; N slots stand first

@@ -9,9 +9,6 @@ use Rattle.session_layout.proofs.Laid.{laid-parts, laid-last, laid-fits
 use borrow.Author.Needs.{needs}
 use Rattle.session_layout.proofs.put_session.Statement.{statement}
 use Rattle.session_layout.proofs.put_session.Tie as tie
-use Rattle.session_layout.proofs.put_session.Reads as reads
-use Rattle.session_layout.proofs.put_session.Lts as lts
-use Rattle.reuse_copies.proofs.put.Reads as put-reads
 
 -- the session has its widths
 wide : (c : tie.Start) → Wide (c .args .t2)

@@ -13,9 +13,6 @@ use Rattle.session_marks.proofs.Search.{goingOn, holds-other, holds-som
 use borrow.Author.Needs.{needs}
 use Rattle.session_marks.proofs.find.Statement.{statement}
 use Rattle.session_marks.proofs.find.Tie as tie
-use Rattle.session_marks.proofs.find.Reads as reads
-use Rattle.session_marks.proofs.find.Lts as lts
-use Rattle.session_points.proofs.mark_at.Reads as mark-at-reads
 
 abbrev Inv-loop : tie.InvT-loop
 Inv-loop slots count rights next x looked₀ i₀ looked i = (length slots ≡ slotCount) × (length rights ≡ rightCount) × (goingOn (holds slots (marksFrom levels count rights) x) i looked ≡ foundIn slots count rights next x) × (looked + i ≤ slotCount)

@@ -1,5 +1,5 @@
 -- `session_points::above` meets its contract. The invariant is `Up`, where the way up from the slot has come.
-use mathlib.Core.Path.{_≡_, refl, sym, _∙_}
+use mathlib.Core.Path.{refl, sym}
 use mathlib.Core.Logic.{⊎-elim}
 use mathlib.Core.List.{map}
 use Prim.Native.Nat.{_+_, _-_, _/_}
@@ -9,11 +9,8 @@ use Rattle.reuse.specs.Limits.{slotCount, rightCount, levels}
 use Rattle.reuse.specs.Lists.{sum}
 use Rattle.session_rights.specs.Ways.{fromLeft}
 use Rattle.session_points.proofs.Ups.{slot-other, slot-past, slot-some, walked-none, walked-some, left-few, Up, up-start, up-turn, up-end}
-use borrow.Author.Needs.{needs}
 use Rattle.session_points.proofs.above.Statement.{statement}
 use Rattle.session_points.proofs.above.Tie as tie
-use Rattle.session_points.proofs.above.Reads as reads
-use Rattle.session_points.proofs.above.Lts as lts
 
 abbrev Inv-loop : tie.InvT-loop
 Inv-loop rights s total₀ count₀ node₀ total count node = Up slotCount rights (sum (map (λ k. getD rights k 0) (fromLeft levels 0 s))) (length (fromLeft levels 0 s)) node total count

@@ -1,7 +1,7 @@
 -- `session_points::change` meets its contract. The invariant is `Changing`, how far up the change has come.
 use mathlib.Core.Path.{sym}
 use mathlib.Core.Logic.{⊎-elim}
-use Prim.Native.Nat.{ℕ, _+_, _-_, _%_, _^_}
+use Prim.Native.Nat.{_+_, _-_, _%_, _^_}
 use native.Mathlib.Omega.{arith}
 use Rattle.reuse.specs.Limits.{slotCount, rightCount}
 use Rattle.session_points.specs.Points.{changedBy}
@@ -9,9 +9,6 @@ use Rattle.session_points.proofs.Changing.{change-past, Changing, chang
 use borrow.Author.Needs.{needs}
 use Rattle.session_points.proofs.change.Statement.{statement}
 use Rattle.session_points.proofs.change.Tie as tie
-use Rattle.session_points.proofs.change.Reads as reads
-use Rattle.session_points.proofs.change.Lts as lts
-use Rattle.std.proofs.num.wrapping_add_u32.Reads as wrapping-add-u32-reads
 
 abbrev Inv-loop : tie.InvT-loop
 Inv-loop rights₀ s c node₀ rights node = Changing slotCount (λ n. (n + c) % 2 ^ 32) (changedBy c rights₀ s) rights node

@@ -11,9 +11,6 @@ use Rattle.session_points.proofs.Fronts.{front-start, front-turn, front
 use borrow.Author.Needs.{needs}
 use Rattle.session_points.proofs.front.Statement.{statement}
 use Rattle.session_points.proofs.front.Tie as tie
-use Rattle.session_points.proofs.front.Reads as reads
-use Rattle.session_points.proofs.front.Lts as lts
-use Rattle.session_points.proofs.change.Reads as change-reads
 
 abbrev Inv-loop : tie.InvT-loop
 Inv-loop v n out₀ i₀ out i = (n ≡ min v slotCount) × (i ≤ n) × (out ≡ rightsOf levels (filled slotCount (replicate i 1)))

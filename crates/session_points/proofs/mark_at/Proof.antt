@@ -1,6 +1,6 @@
 -- `session_points::mark_at` meets its contract. The invariant is `Marking`: the total of the node that the way has come to, less what is to be taken off, is the mark.
-use mathlib.Core.Path.{_≡_, refl, sym, ap, _∙_}
-use Prim.Native.Nat.{ℕ, _+_, _-_, _/_}
+use mathlib.Core.Path.{sym, _∙_}
+use Prim.Native.Nat.{_+_, _-_, _/_}
 use native.Mathlib.Omega.{arith}
 use Rattle.reuse.specs.Limits.{slotCount, rightCount}
 use Rattle.session_points.specs.Points.{markAt}
@@ -9,9 +9,6 @@ use Rattle.session_points.proofs.Marking.{mark-none, Marking, marking-s
 use borrow.Author.Needs.{needs}
 use Rattle.session_points.proofs.mark_at.Statement.{statement}
 use Rattle.session_points.proofs.mark_at.Tie as tie
-use Rattle.session_points.proofs.mark_at.Reads as reads
-use Rattle.session_points.proofs.mark_at.Lts as lts
-use Rattle.session_points.proofs.remaining.Reads as remaining-reads
 
 abbrev Inv-loop : tie.InvT-loop
 Inv-loop count rights s less₀ node₀ less node = Marking slotCount count rights (markAt count rights s) node less

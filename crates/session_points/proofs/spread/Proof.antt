@@ -1,16 +1,11 @@
 -- `session_points::spread` meets its contract. The invariant is `Spread`: the points from i on are worked out.
-use mathlib.Core.Path.{_≡_, sym, _∙_}
 use mathlib.Core.Logic.{⊎-elim}
-use Prim.Native.Nat.{_+_, _-_, _*_}
+use Prim.Native.Nat.{_-_}
 use native.Mathlib.Omega.{arith}
-use Rattle.reuse.specs.Limits.{slotCount}
 use Rattle.session_points.proofs.Spreads.{Spread, spread-start, spread-above, spread-within, spread-end}
 use borrow.Author.Needs.{needs}
 use Rattle.session_points.proofs.spread.Statement.{statement}
 use Rattle.session_points.proofs.spread.Tie as tie
-use Rattle.session_points.proofs.spread.Reads as reads
-use Rattle.session_points.proofs.spread.Lts as lts
-use Rattle.session_points.proofs.remaining.Reads as remaining-reads
 
 abbrev Inv-loop : tie.InvT-loop
 Inv-loop marks₀ m rights good₀ i₀ marks good i = Spread m marks₀ rights marks good i

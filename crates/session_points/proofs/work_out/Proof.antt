@@ -1,18 +1,15 @@
 -- `session_points::work_out` meets its contract. The invariant is `Down`: the first m words are the totals of a level.
-use mathlib.Core.Path.{_≡_, refl, sym, ap, _∙_}
+use mathlib.Core.Path.{sym, ap, _∙_}
 use mathlib.Core.Logic.{⊎-elim}
 use mathlib.Core.Bool.{Bool, _&&_, and-true, and-false}
 use borrow.Author.Tests.{not-true, not-false}
-use Prim.Native.Nat.{_+_, _-_, _*_, _≤_}
+use Prim.Native.Nat.{_+_, _-_, _≤_}
 use native.Mathlib.Omega.{arith}
 use Rattle.reuse.specs.Limits.{slotCount}
 use Rattle.session_points.proofs.Downs.{worked-other, Down, down-start, down-some, down-room, down-part, down-level, down-turn, down-end}
 use borrow.Author.Needs.{needs}
 use Rattle.session_points.proofs.work_out.Statement.{statement}
 use Rattle.session_points.proofs.work_out.Tie as tie
-use Rattle.session_points.proofs.work_out.Reads as reads
-use Rattle.session_points.proofs.work_out.Lts as lts
-use Rattle.session_points.proofs.spread.Reads as spread-reads
 
 abbrev Inv-loop : tie.InvT-loop
 Inv-loop count rights marks₀ within₀ m₀ marks within m = Down count rights marks within m

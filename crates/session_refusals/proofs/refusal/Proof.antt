@@ -7,10 +7,6 @@ use Rattle.session_refusals.proofs.Refusals.{refusal-unsound, refusal-r
 use borrow.Author.Needs.{needs}
 use Rattle.session_refusals.proofs.refusal.Statement.{statement}
 use Rattle.session_refusals.proofs.refusal.Tie as tie
-use Rattle.session_refusals.proofs.refusal.Reads as reads
-use Rattle.session_refusals.proofs.refusal.Lts as lts
-use Rattle.reuse_rows.proofs.contains.Reads as contains-reads
-use Rattle.session_soundness.proofs.intact.Reads as intact-reads
 
 -- the start, from the place after the test of soundness
 abbrev start : tie.After-intact → tie.Start

@@ -1,6 +1,5 @@
 -- `session_soundness::intact` meets its contract. A row of another width is not sound, nor is a right-hand sum above its point's total; the others are tested.
 use mathlib.Core.Path.{_≡_, sym, ap, _∙_}
-use mathlib.Core.Bool.{true, false}
 use mathlib.Core.List.{List}
 use Prim.Native.Nat.{ℕ}
 use native.Mathlib.Omega.{arith}
@@ -9,17 +8,13 @@ use Rattle.reuse.specs.Lists.{sum}
 use Rattle.reuse.specs.Limits.{maxExtents, slotCount, rightCount, levels}
 use Rattle.session_rights.specs.Rights.{marksFrom, inTotals}
 use Rattle.session_points.specs.declared.Worked.{Worked}
-use Rattle.session_soundness.specs.Soundness.{soundRows, intactRows, Wide}
+use Rattle.session_soundness.specs.Soundness.{soundRows, intactRows}
 use Rattle.session_rights.proofs.Rights.{worked-out}
 use Rattle.session_points.proofs.Downs.{worked-some}
 use Rattle.session_soundness.proofs.Sound.{Kept, kept-wide, intact-above, intact-within}
 use borrow.Author.Needs.{needs}
 use Rattle.session_soundness.proofs.intact.Statement.{statement}
 use Rattle.session_soundness.proofs.intact.Tie as tie
-use Rattle.session_soundness.proofs.intact.Reads as reads
-use Rattle.session_soundness.proofs.intact.Lts as lts
-use Rattle.session_points.proofs.work_out.Reads as work-out-reads
-use Rattle.session_soundness.proofs.rows_hold.Reads as rows-hold-reads
 
 -- the start, from the place after the widths' tests
 abbrev start : tie.Else4 → tie.Start

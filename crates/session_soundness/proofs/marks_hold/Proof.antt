@@ -1,5 +1,5 @@
 -- `session_soundness::marks_hold` meets its contract. Each return is one test of `marksHold`.
-use mathlib.Core.Path.{_≡_, sym, ap, _∙_}
+use mathlib.Core.Path.{sym, ap, _∙_}
 use borrow.Author.Tests.{not-true, not-false, le-leb, lt-leb}
 use Rattle.reuse_rows.specs.Rows.{blank}
 use Rattle.session_soundness.specs.Soundness.{marksHold}
@@ -7,10 +7,6 @@ use Rattle.reuse_rows.proofs.Slices.{part-rest}
 use borrow.Author.Needs.{needs}
 use Rattle.session_soundness.proofs.marks_hold.Statement.{statement}
 use Rattle.session_soundness.proofs.marks_hold.Tie as tie
-use Rattle.session_soundness.proofs.marks_hold.Reads as reads
-use Rattle.session_soundness.proofs.marks_hold.Lts as lts
-use Rattle.reuse_rows.proofs.all_zero.Reads as all-zero-reads
-use Rattle.session_soundness.proofs.neat.Reads as neat-reads
 
 returns : tie.Need-returns
 unfolding marksHold

@@ -1,5 +1,5 @@
 -- `session_soundness::rows_hold` meets its contract. Each test that fails breaks a fact, and the last decides.
-use mathlib.Core.Path.{_≡_, refl, sym, ap, _∙_}
+use mathlib.Core.Path.{_≡_, sym, ap, _∙_}
 use native.Mathlib.Omega.{arith}
 use lib.ListN.{length, take, drop}
 use lib.Seq.{length-take-le, take-all}
@@ -17,14 +17,6 @@ use Rattle.session_soundness.proofs.Verdict.{Passed, passed-sound, soun
 use borrow.Author.Needs.{needs}
 use Rattle.session_soundness.proofs.rows_hold.Statement.{statement}
 use Rattle.session_soundness.proofs.rows_hold.Tie as tie
-use Rattle.session_soundness.proofs.rows_hold.Reads as reads
-use Rattle.session_soundness.proofs.rows_hold.Lts as lts
-use Rattle.reuse_rows.proofs.all_zero.Reads as all-zero-reads
-use Rattle.reuse_rows.proofs.total.Reads as total-reads
-use Rattle.reuse_tables.proofs.all_distinct.Reads as all-distinct-reads
-use Rattle.reuse_tables.proofs.all_in.Reads as all-in-reads
-use Rattle.session_marks.proofs.gather.Reads as gather-reads
-use Rattle.session_soundness.proofs.marks_hold.Reads as marks-hold-reads
 
 -- the widths of the rows
 wide : (c : tie.Start) → Wide (c .args .first .now) (c .args .hist .now) (c .args .slots .now) (c .args .marks .now)

@@ -4,9 +4,6 @@ use Rattle.session.proofs.Parts.{count-is, entered-step}
 use borrow.Author.Needs.{needs}
 use Rattle.session.proofs.Session.entered.Statement.{statement}
 use Rattle.session.proofs.Session.entered.Tie as tie
-use Rattle.session.proofs.Session.entered.Reads as reads
-use Rattle.session.proofs.Session.entered.Lts as lts
-use Rattle.session_points.proofs.change.Reads as change-reads
 
 cast-next : tie.Need-cast-next
 cast-next c = search needs

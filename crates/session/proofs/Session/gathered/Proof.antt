@@ -1,18 +1,11 @@
 -- `session::Session::gathered` meets its contract. From what `work_out`, `gather` and `front` ensure.
-use Prim.Native.Nat.{ℕ}
 use mathlib.Core.Path.{ap, _∙_}
-use mathlib.Core.List.{List}
 use Rattle.session_points.specs.declared.Worked.{Worked}
 use Rattle.session_marks.specs.Marks.{gatheredRow}
 use Rattle.session.proofs.Parts.{worked, gathered-new}
 use borrow.Author.Needs.{needs}
 use Rattle.session.proofs.Session.gathered.Statement.{statement}
 use Rattle.session.proofs.Session.gathered.Tie as tie
-use Rattle.session.proofs.Session.gathered.Reads as reads
-use Rattle.session.proofs.Session.gathered.Lts as lts
-use Rattle.session_marks.proofs.gather.Reads as gather-reads
-use Rattle.session_points.proofs.front.Reads as front-reads
-use Rattle.session_points.proofs.work_out.Reads as work-out-reads
 
 work-out-requires : tie.Need-work-out-requires
 work-out-requires c κs = search needs

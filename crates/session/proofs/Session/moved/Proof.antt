@@ -1,7 +1,7 @@
 -- `session::Session::moved` meets its contract. From what `above` and `change` ensure.
 use mathlib.Core.Path.{_≡_, ap, _∙_}
 use mathlib.Core.List.{List}
-use Prim.Native.Nat.{ℕ, suc, _-_, _^_, _<_}
+use Prim.Native.Nat.{ℕ, suc, _-_, _<_}
 use native.Mathlib.Omega.{arith}
 use lib.ListN.{drop, getD}
 use Rattle.reuse.specs.Limits.{maxExtents, levels}
@@ -15,10 +15,6 @@ use Rattle.session.proofs.Parts as parts
 use borrow.Author.Needs.{needs}
 use Rattle.session.proofs.Session.moved.Statement.{statement}
 use Rattle.session.proofs.Session.moved.Tie as tie
-use Rattle.session.proofs.Session.moved.Reads as reads
-use Rattle.session.proofs.Session.moved.Lts as lts
-use Rattle.session_points.proofs.above.Reads as above-reads
-use Rattle.session_points.proofs.change.Reads as change-reads
 
 -- the start, from the place after the way up
 abbrev start : tie.After-above → tie.Start

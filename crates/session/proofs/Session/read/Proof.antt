@@ -10,14 +10,6 @@ use Rattle.session.proofs.Ways.{Ready, ready-made, ready-there, searchO
 use borrow.Author.Needs.{needs}
 use Rattle.session.proofs.Session.read.Statement.{statement}
 use Rattle.session.proofs.Session.read.Tie as tie
-use Rattle.session.proofs.Session.read.Reads as reads
-use Rattle.session.proofs.Session.read.Lts as lts
-use Rattle.session.proofs.Session.entered.Reads as entered-reads
-use Rattle.session.proofs.Session.gathered.Reads as gathered-reads
-use Rattle.session.proofs.Session.moved.Reads as moved-reads
-use Rattle.session.proofs.Session.refused.Reads as refused-reads
-use Rattle.session_marks.proofs.find.Reads as find-reads
-use Rattle.session_refusals.proofs.refusal.Reads as refusal-reads
 
 -- the start, from the place after the refusals
 abbrev start : tie.After-refusal → tie.Start

@@ -5,9 +5,6 @@ use Rattle.session.proofs.Corresponds.{tested}
 use borrow.Author.Needs.{needs}
 use Rattle.session.proofs.Session.sound.Statement.{statement}
 use Rattle.session.proofs.Session.sound.Tie as tie
-use Rattle.session.proofs.Session.sound.Reads as reads
-use Rattle.session.proofs.Session.sound.Lts as lts
-use Rattle.session_soundness.proofs.intact.Reads as intact-reads
 
 -- the widths of the session's arrays
 wide : (c : tie.Start) → Wide (c .args .t1)
