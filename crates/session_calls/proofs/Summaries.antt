@@ -117,7 +117,7 @@ module _ (s : FullSession) (w : FullWide s) (c : ℕ) where
   pub session-between : Between (shareCall s c)
   unfolding shareCall servableOf missesOf
   session-between x e =
-      let q = given-share (sound s) (shareAt (sessionWords s) c) 7 x e in
+      let q = given-share (sound s) (Answered (shareAt (sessionWords s) c)) 7 x e in
       let k = rows-of s w (q .0) in
       share-between (hitsOf (sessionWords s) c) (servableOf (sessionWords s)) (omega (arith, hits-reads s k c, reads-session s k)) x (q .1)
 
@@ -125,6 +125,6 @@ module _ (s : FullSession) (w : FullWide s) (c : ℕ) where
   pub session-full : extents s ≤ c → Full (shareCall s c)
   unfolding shareCall
   session-full l x e =
-      let q = given-share (sound s) (shareAt (sessionWords s) c) 7 x e in
+      let q = given-share (sound s) (Answered (shareAt (sessionWords s) c)) 7 x e in
       let k = rows-of s w (q .0) in
       share-full (hitsOf (sessionWords s) c) (servableOf (sessionWords s)) (omega (arith, hits-large s k c l, hist-total s k, servable-session s k)) x (q .1)

@@ -9,9 +9,6 @@ use summary_calls::MissCount;
 use summary_calls::ShareAnswer;
 use summary_calls::Written;
 
-// The place of the sum over all marks.
-const ROOT: usize = reuse::SUMS - 1;
-
 // The summary's words at the front of the lent buffer, or the refusal.
 pub fn summary(s: Session, out: &mut [u32]) -> Written
     ensures { λ r. ⌜ (r ≡ summaryCall s (now (out .entry)) .answer) × (now (out .exit) ≡ summaryCall s (now (out .entry)) .buffer) ⌝ }
@@ -19,8 +16,10 @@ pub fn summary(s: Session, out: &mut [u32]) -> Written
     if !s.sound() {
         return Written::Refused(7);
     }
-    let v = s.sums[ROOT] as usize;
-    let marked = session_marks::gather(&s.slots, &s.sums);
+    let count = s.count;
+    let v = count as usize;
+    let worked = session_points::work_out(count, &s.rights);
+    let marked = session_marks::gather(&s.slots, &worked.marks);
     let recent = reuse_copies::turned(&marked[..v]);
     let first = s.first;
     let counts = s.hist;
@@ -32,7 +31,7 @@ fn hits(s: Session, size: u32) -> u32
     requires { ⌜ sound s ≡ true ⌝ }
     ensures { λ r. ⌜ r ≡ hitsOf (sessionWords s) size ⌝ }
 {
-    let v = s.sums[ROOT] as usize;
+    let v = s.count as usize;
     let mut n = size as usize;
     if v < n {
         n = v;
@@ -60,7 +59,7 @@ pub fn share(s: Session, size: u32) -> ShareAnswer
         return ShareAnswer::Refused(7);
     }
     let reads = s.reads;
-    let servable = reads - s.sums[ROOT];
+    let servable = reads - s.count;
     let hit = hits(s, size);
     ShareAnswer::Answered(summary_counts::share_of(hit, servable))
 }

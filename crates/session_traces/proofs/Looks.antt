@@ -15,6 +15,7 @@ use Rattle.session.specs.declared.Step.{Step}
 use Rattle.session.specs.Sessions.{Wide, newOf, marks, oldOf, sound}
 use Rattle.session.specs.Reads.{roomed, readOf}
 use Rattle.session_traces.specs.Looks.{Look, Looks}
+use Rattle.session_calls.proofs.Read.{read-stands as stands-on}
 use Rattle.session_calls.proofs.Looks as old
 use Rattle.session.proofs.Corresponds.{sound-facts, old-sound, new-marks, read-new}
 use Rattle.session_traces.proofs.Stands.{Stands, old-room, old-roomed}

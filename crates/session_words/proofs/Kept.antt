@@ -8,6 +8,8 @@ use lib.ListN.{length}
 use borrow.Author.Tests.{le-leb, lt-leb}
 use Rattle.reuse_rows.specs.Rows.{putAt, placed}
 use Rattle.summary_calls.specs.declared.Written.the-variants.{Words}
+use Rattle.summary_calls.specs.declared.MissCount.the-variants.{Refused as NoMisses}
+use Rattle.summary_calls.specs.declared.ShareAnswer.the-variants.{Refused as NoShare}
 use Rattle.summary_calls.specs.Calls.{refused}
 use Rattle.summary_calls.proofs.Calls.{wrote-short, wrote-all}
 use Rattle.session.specs.declared.Session.{Session}

@@ -16,8 +16,8 @@ use Rattle.reuse.specs.Summary.{extentsOf, wellFormed, hitsOf, servableOf}
 use Rattle.reuse.proofs.Lists.{by-test, clash}
 use Rattle.reuse.proofs.Formed.{formed}
 use Rattle.reuse.proofs.Servable.{hits-servable, all-servable}
-use Rattle.summary_calls.specs.declared.HitShare.{HitShare}
 use Rattle.summary_calls.specs.declared.HitShare.the-variants.{Share, NoReads}
+use Rattle.summary_calls.specs.declared.ShareAnswer.{ShareAnswer}
 use Rattle.summary_calls.specs.declared.ShareAnswer.the-variants.{Answered, Refused as NoShare}
 use Rattle.summary_calls.specs.Calls.{shareOf, shareAt, shareCall}
 use Rattle.summary_calls.specs.HitShares.{nought, one, NoneOf, Between, Full}
@@ -79,9 +79,9 @@ module _ (h n : ℕ) where
       (λ k. omega (arith, ltb-false h n k))
 
 -- a share is no refusal
-pub given-share : (b : Bool) (s : HitShare) (n : ℕ) (x : Float) → cond b (Answered s) (NoShare n) ≡ Answered (Share x) → (b ≡ true) × (Answered s ≡ Answered (Share x))
-given-share true s n x e = (refl, e)
-given-share false s n x e = clash {b = true} refl cc
+pub given-share : (b : Bool) (a : ShareAnswer) (n : ℕ) (x : Float) → cond b a (NoShare n) ≡ Answered (Share x) → (b ≡ true) × (a ≡ Answered (Share x))
+given-share true a n x e = (refl, e)
+given-share false a n x e = clash {b = true} refl cc
 
 -- of a summary's words
 module _ (w : List ℕ) (c : ℕ) where
@@ -94,12 +94,12 @@ module _ (w : List ℕ) (c : ℕ) where
   pub words-between : Between (shareCall w c)
   unfolding shareCall
   words-between x e =
-      let q = given-share (wellFormed w) (shareAt w c) 5 x e in
+      let q = given-share (wellFormed w) (Answered (shareAt w c)) 5 x e in
       share-between (hitsOf w c) (servableOf w) (hits-servable w (formed w (q .0)) c) x (q .1)
 
   -- exactly 1 at a size of at least v
   pub words-full : extentsOf w ≤ c → Full (shareCall w c)
   unfolding shareCall
   words-full l x e =
-      let q = given-share (wellFormed w) (shareAt w c) 5 x e in
+      let q = given-share (wellFormed w) (Answered (shareAt w c)) 5 x e in
       share-full (hitsOf w c) (servableOf w) (all-servable w (formed w (q .0)) c l) x (q .1)

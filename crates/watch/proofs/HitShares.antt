@@ -18,5 +18,5 @@ watch-none w ok = simp ok (share-none (w .hits) (servableOf w))
 pub watch-between : (w : Watch) → Between (shareCall w)
 unfolding shareCall
 watch-between w x e =
-    let q = given-share (soundOf w) (shareOf (w .hits) (servableOf w)) 7 x e in
+    let q = given-share (soundOf w) (Answered (shareOf (w .hits) (servableOf w))) 7 x e in
     share-between (w .hits) (servableOf w) (omega (arith, sound-watch w (q .0) .fits)) x (q .1)

@@ -8,49 +8,52 @@ use lib.Seq.{length-take-le, take-all}
 use Rattle.reuse.specs.Limits.{maxExtents}
 use Rattle.reuse.specs.Lists.{sum}
 use Rattle.reuse.specs.Summary.{hitsOf}
-use Rattle.session_soundness.specs.Soundness.{Wide}
-use Rattle.session.specs.Sessions.{extents}
+use Rattle.session.specs.Sessions.{Wide, oldOf, extents}
 use Rattle.session_summary.specs.Summaries.{sessionWords}
-use Rattle.session.proofs.Sound.{Kept, rows-of, true-sound, kept-root, kept-few}
-use Rattle.session_summary.proofs.Summaries.{hits-small, hits-large, hits-reads}
+use Rattle.session_calls.proofs.Sound.{Kept, kept-few}
+use Rattle.session.proofs.Corresponds.{sound-facts}
+use Rattle.session_calls.proofs.Summaries.{hits-small, hits-large, hits-reads}
+use Rattle.session_summary.proofs.Summaries.{rows, count-extents}
 use borrow.Author.Needs.{needs}
 use Rattle.session_summary.proofs.hits.Statement.{statement}
 use Rattle.session_summary.proofs.hits.Tie as tie
 
 -- the widths of the session's arrays
-wide : (c : tie.Start) → Wide (c .args .t1 .first) (c .args .t1 .hist) (c .args .t1 .slots) (c .args .t1 .sums)
-wide c = search needs
+wide : (c : tie.Start) → Wide (c .args .s)
+wide c = record { first-wide = search needs; hist-wide = search needs; slots-wide = search needs; rights-wide = search needs }
 
--- its rows are sound
-kept : (c : tie.Start) → Kept (c .args .t1)
-kept c = rows-of (c .args .t1) (wide c) (c .pre)
+-- the old session's rows are sound
+kept : (c : tie.Start) → Kept (oldOf (c .args .s))
+kept c = rows (c .args .s) (wide c) (c .pre)
+
+-- the count is v
+is-v : (c : tie.Start) → c .args .s .count ≡ extents (c .args .s)
+is-v c = count-extents (c .args .s) (wide c) (c .pre)
 
 -- the words of H that are counted
 counted : (c : tie.Joined1)
-    → (c .if1 .n ≤ extents (c .before .before .args .t1)) × (sum (take (c .if1 .n) (c .before .before .args .t1 .hist)) ≡ hitsOf (sessionWords (c .before .before .args .t1)) (c .before .before .args .size))
+    → (c .if1 .n ≤ extents (c .before .before .args .s)) × (sum (take (c .if1 .n) (c .before .before .args .s .hist)) ≡ hitsOf (sessionWords (c .before .before .args .s)) (c .before .before .args .size))
 counted c =
-    let s = c .before .before .args .t1 in
+    let s = c .before .before .args .s in
     let k = kept (c .before .before) in
+    let e = is-v (c .before .before) in
     ⊎-elim
-    (λ w. rw (w .1, kept-root s k) (omega arith, hits-large s k _ (omega (arith, kept-root s k, w .0 .taken))))
-    (λ w. rw (w .1) (omega (arith, kept-root s k, w .0 .left), hits-small s k _ (omega (arith, kept-root s k, w .0 .left))))
+    (λ w. rw (w .1 ∙ e) (omega arith, hits-large (oldOf s) k _ (omega (arith, e, w .0 .taken))))
+    (λ w. rw (w .1) (omega (arith, e, w .0 .left), hits-small (oldOf s) k _ (omega (arith, e, w .0 .left))))
     (c .if1 .came)
 
 -- they are within the limit
 small : (c : tie.Joined1) → c .if1 .n ≤ maxExtents
-small c = omega (arith, counted c .0, kept-few (c .before .before .args .t1) (kept (c .before .before)))
+small c = omega (arith, counted c .0, kept-few (oldOf (c .before .before .args .s)) (kept (c .before .before)))
 
 -- their sum is the hits
-hit : (c : tie.After-total) → c .total .result ≡ hitsOf (sessionWords (c .before .before .before .before .before .args .t1)) (c .before .before .before .before .before .args .size)
+hit : (c : tie.After-total) → c .total .result ≡ hitsOf (sessionWords (c .before .before .before .before .before .args .s)) (c .before .before .before .before .before .args .size)
 hit c =
     let j = c .before .before .before in
-    let h = j .before .before .args .t1 .hist in
+    let h = j .before .before .args .s .hist in
     c .total .ensures .0
     ∙ ap sum (take-all maxExtents (take (j .if1 .n) h) (omega (arith, small j, length-take-le (j .if1 .n) h (omega (arith, small j, wide (j .before .before) .hist-wide)))))
     ∙ counted j .1
-
-element-copy-out-v : tie.Need-element-copy-out-v
-element-copy-out-v c = search needs
 
 cast-v : tie.Need-cast-v
 cast-v c = search needs
@@ -67,7 +70,7 @@ total-requires c κs = search needs
 cast-result : tie.Need-cast-result
 cast-result c =
     let z = c .before .before .before .before .before in
-    omega (arith, hit c, hits-reads (z .args .t1) (kept z) (z .args .size), true-sound (z .args .t1) (wide z) (z .pre) .short)
+    omega (arith, hit c, hits-reads (oldOf (z .args .s)) (kept z) (z .args .size), sound-facts (z .args .s) (wide z) (z .pre) .sound .short)
 
 returns : tie.Need-returns
 returns c = hit c
@@ -76,7 +79,6 @@ pub hits-spec : {M : Type 1} → statement M
 hits-spec =
     tie.close
     (tie.spec
-    element-copy-out-v
     cast-v
     array-share-prefix-hist
     slice-aggregate-total

@@ -8,14 +8,23 @@ use lib.Seq.{length-take-le}
 use borrow.Author.Tests.{not-true, not-false}
 use Rattle.reuse.specs.Limits.{maxExtents, slotCount}
 use Rattle.summary_calls.specs.Calls.{Wrote}
-use Rattle.session_soundness.specs.Soundness.{Wide}
+use Rattle.session_points.specs.declared.Worked.{Worked}
+use Rattle.session_marks.specs.Marks.{gatheredRow}
 use Rattle.session.specs.declared.Session.{Session}
-use Rattle.session.specs.Sessions.{sound}
-use Rattle.session.proofs.Sound.{root}
-use Rattle.session_summary.proofs.Summaries.{unsound-way, root-few, words-given}
+use Rattle.session.specs.Sessions.{Wide, sound}
+use Rattle.session.proofs.Corresponds.{sound-facts, summed}
+use Rattle.session.proofs.Parts.{worked}
+use Rattle.session_summary.proofs.Summaries.{unsound-way, count-few, words-given}
 use borrow.Author.Needs.{needs}
 use Rattle.session_summary.proofs.summary.Statement.{statement}
 use Rattle.session_summary.proofs.summary.Tie as tie
+use Rattle.session_summary.proofs.summary.Reads as reads
+use Rattle.session_summary.proofs.summary.Lts as lts
+use Rattle.reuse_copies.proofs.turned.Reads as turned-reads
+use Rattle.session.proofs.Session.sound.Reads as sound-reads
+use Rattle.session_marks.proofs.gather.Reads as gather-reads
+use Rattle.session_points.proofs.work_out.Reads as work-out-reads
+use Rattle.summary_words.proofs.write.Reads as write-reads
 
 -- the start, from the place after the test
 abbrev start : tie.Else1 → tie.Start
@@ -27,19 +36,19 @@ given c = start c .args .t1
 
 -- the place after the test, from the gathering
 abbrev tested : tie.After-gather → tie.Else1
-tested c = c .before .before .before .before .before .before .before
+tested c = c .before .before .before .before .before .before .before .before .before .before .before
 
 -- the widths of the session's arrays
-wide : (c : tie.Start) → Wide (c .args .t1 .first) (c .args .t1 .hist) (c .args .t1 .slots) (c .args .t1 .sums)
-wide c = search needs
+wide : (c : tie.Start) → Wide (c .args .t1)
+wide c = record { first-wide = search needs; hist-wide = search needs; slots-wide = search needs; rights-wide = search needs }
 
 -- the session is sound
 ok : (c : tie.Else1) → sound (given c) ≡ true
 ok c = sym (c .before .sound .ensures) ∙ not-false _ (c .if1 .left)
 
 -- v is within the limit
-few : (c : tie.Else1) → root (given c) ≤ maxExtents
-few c = root-few (given c) (wide (start c)) (ok c)
+few : (c : tie.Else1) → given c .count ≤ maxExtents
+few c = count-few (given c) (wide (start c)) (ok c)
 
 sound-requires : tie.Need-sound-requires
 sound-requires c κs = search needs
@@ -50,11 +59,11 @@ returns c =
     let e = unsound-way (z .args .t1) (z .args .out .now) (sym (c .before .sound .ensures) ∙ not-true _ (c .if1 .taken)) in
     (sym (ap (λ (q : Wrote). q .answer) e), sym (ap (λ (q : Wrote). q .buffer) e))
 
-element-copy-out-v : tie.Need-element-copy-out-v
-element-copy-out-v c = search needs
-
 cast-v : tie.Need-cast-v
 cast-v c = search needs
+
+work-out-requires : tie.Need-work-out-requires
+work-out-requires c κs = search needs
 
 gather-requires : tie.Need-gather-requires
 gather-requires c κs = search needs
@@ -102,7 +111,9 @@ returns-2 c =
     let t = w .before .before .before .before .before .before .before in
     let g = t .before .before in
     let z = tested g in
-    words-given (given z) (wide (start z)) (ok z) (start z .args .out .now) (g .gather .result) (t .turned .result) _ _ (g .gather .ensures) (t .turned .ensures) (w .write .ensures)
+    let o = g .before .before .before .before .before .before .before .work-out in
+    let marks = ap (λ (r : Worked). r .marks) (o .ensures) ∙ worked (given z) (summed (given z) (sound-facts (given z) (wide (start z)) (ok z))) in
+    words-given (given z) (wide (start z)) (ok z) (start z .args .out .now) (g .gather .result) (t .turned .result) _ _ (g .gather .ensures ∙ ap (gatheredRow (given z .slots)) marks) (t .turned .ensures) (w .write .ensures)
 
 pub summary-spec : {M : Type 1} → statement M
 summary-spec =
@@ -110,8 +121,8 @@ summary-spec =
     (tie.spec
     sound-requires
     returns
-    element-copy-out-v
     cast-v
+    work-out-requires
     gather-requires
     array-share-prefix-marked
     slice-aggregate-turned
