@@ -11,8 +11,8 @@ use Rattle.summary_calls.specs.declared.MissCount.the-variants.{Misses, Refused
 use Rattle.summary_calls.specs.declared.HitShare.the-variants.{Share, NoReads}
 use Rattle.summary_calls.specs.declared.ShareAnswer.{ShareAnswer}
 use Rattle.summary_calls.specs.declared.ShareAnswer.the-variants.{Answered, Refused as NoShare}
-use Rattle.session.specs.declared.Answer.{Answer}
-use Rattle.session.specs.declared.Answer.the-variants.{Cold, Distance, Refused as NoRead}
+use Rattle.session_calls.specs.declared.Answer.{Answer}
+use Rattle.session_calls.specs.declared.Answer.the-variants.{Cold, Distance, Refused as NoRead}
 use Rattle.split_calls.specs.declared.SplitAnswer.{SplitAnswer}
 use Rattle.split_calls.specs.declared.SplitAnswer.the-variants.{Misses as SplitMisses, Refused as NoSplit}
 use Rattle.insertion_calls.specs.declared.InsertionAnswer.{InsertionAnswer}

@@ -1,7 +1,7 @@
 // Answers as one signed number: what was asked for, or the negative of the refusal's number.
 use insertion_calls::InsertionAnswer;
 use moments::MomentAnswer;
-use session::Answer;
+use session_calls::Answer;
 use split_calls::SplitAnswer;
 use summary_calls::HitShare;
 use summary_calls::MissCount;

@@ -14,7 +14,7 @@ use Rattle.reuse.specs.Limits.{maxNames}
 use Rattle.reuse.proofs.Lists.{by-test, both}
 use Rattle.reuse_rows.specs.Rows.{putAt, placed}
 use Rattle.reuse_copies.proofs.Puts.{put-cons, put-length, put-before, put-there, put-after}
-use Rattle.session_soundness.specs.Soundness.{Wide}
+use Rattle.session.specs.Sessions.{Wide}
 use Rattle.session.specs.declared.Session.{Session}
 use Rattle.session_layout.specs.declared.Kept.{Kept}
 use Rattle.session_layout.specs.Layout.{sessionLength, part, keptIn, sessionLaid}
@@ -43,7 +43,7 @@ part-front : (w : List ℕ) (b n : ℕ) → b ≤ length w → part b n w ≡ dr
 unfolding part
 part-front w b n h = sym (ap (drop b) (take-add b n w) ∙ drop-at (take b w) (take n (drop b w)) b (length-take-le b w h))
 
-module _ (names : List ℕ) (k : ℕ) (is : isName k ≡ true) (fits : lies (length names) k ≡ true) (s : Session) (wide : Wide (s .first) (s .hist) (s .slots) (s .sums)) where
+module _ (names : List ℕ) (k : ℕ) (is : isName k ≡ true) (fits : lies (length names) k ≡ true) (s : Session) (wide : Wide s) where
   -- the words of a place that is filled
   filled-length : length (1 ∷ sessionLaid s) ≡ placeLength
   filled-length = ap suc (laid-length s wide)

@@ -8,9 +8,8 @@ use lib.Dec.{leb}
 use lib.ListN.{length}
 use borrow.Author.Tests.{le-leb, lt-leb}
 use Rattle.reuse_rows.specs.Rows.{putAt}
-use Rattle.session_soundness.specs.Soundness.{Wide}
+use Rattle.session.specs.Sessions.{Wide, sound}
 use Rattle.session.specs.declared.Session.{Session}
-use Rattle.session.specs.Sessions.{sound}
 use Rattle.session_layout.specs.Layout.{sessionLength, sessionIn, sessionLaid}
 use Rattle.session_layout.proofs.Laid.{laid-row, laid-read, laid-over}
 use Rattle.moments.specs.declared.MomentAnswer.{MomentAnswer}
@@ -91,7 +90,7 @@ pub apart : (v w : Came) → v ≡ w → (w .answer ≡ v .answer) × (w .words 
 apart v w e = (sym (ap (λ (n : Came). n .answer) e), sym (ap (λ (n : Came). n .words) e))
 
 -- a session laid into words
-module _ (s : Session) (wide : Wide (s .first) (s .hist) (s .slots) (s .sums)) (w : List ℕ) (l : sessionLength ≤ length w) (names : List ℕ) (k : ℕ) where
+module _ (s : Session) (wide : Wide s) (w : List ℕ) (l : sessionLength ≤ length w) (names : List ℕ) (k : ℕ) where
   -- is named as it is by itself
   pub name-kept : nameIn (putAt w 0 (sessionLaid s)) names k ≡ nameCall s names k
   name-kept = by (isName k) refl
@@ -103,7 +102,7 @@ module _ (s : Session) (wide : Wide (s .first) (s .hist) (s .slots) (s .sums)) (
       by false e = in-not (putAt w 0 (sessionLaid s)) names k e ∙ sym (name-not s names k e)
 
   -- and returns as it does by itself
-  pub return-kept : let t = returnCall s names k .session in Wide (t .first) (t .hist) (t .slots) (t .sums)
+  pub return-kept : let t = returnCall s names k .session in Wide t
       → returnIn (putAt w 0 (sessionLaid s)) names k
       ≡ record { answer = returnCall s names k .answer; words = putAt w 0 (sessionLaid (returnCall s names k .session)) }
   return-kept v = came (putAt w 0 (sessionLaid s)) names k s ∙ by (returnCall s names k .answer) refl

@@ -13,10 +13,9 @@ use Rattle.summary_calls.specs.declared.ShareAnswer.the-variants.{Refused as No
 use Rattle.summary_calls.specs.Calls.{refused}
 use Rattle.summary_calls.proofs.Calls.{wrote-short, wrote-all}
 use Rattle.session.specs.declared.Session.{Session}
-use Rattle.session.specs.declared.Answer.{Answer}
-use Rattle.session.specs.declared.Answer.the-variants.{Cold, Distance, Refused}
-use Rattle.session.specs.Sessions.{fresh}
-use Rattle.session_soundness.specs.Soundness.{Wide}
+use Rattle.session_calls.specs.declared.Answer.{Answer}
+use Rattle.session_calls.specs.declared.Answer.the-variants.{Cold, Distance, Refused}
+use Rattle.session.specs.Sessions.{fresh, Wide}
 use Rattle.session.specs.Reads.{refused as readRefused, readOf}
 use Rattle.session_summary.specs.Summaries.{summaryCall, missesCall, shareCall}
 use Rattle.session_layout.specs.Layout.{sessionLength, sessionIn, sessionLaid}
@@ -77,7 +76,7 @@ module _ (w : List ℕ) where
     share-all c = simp (le-leb sessionLength (length w) enough)
 
 -- a session laid into words reads as it does by itself
-pub read-kept : (s : Session) → Wide (s .first) (s .hist) (s .slots) (s .sums) → (w : List ℕ) → sessionLength ≤ length w → (x : ℕ)
+pub read-kept : (s : Session) → Wide s → (w : List ℕ) → sessionLength ≤ length w → (x : ℕ)
     → readIn (putAt w 0 (sessionLaid s)) x ≡ readOf s x
 read-kept s wide w l x =
     read-all (putAt w 0 (sessionLaid s)) (omega (arith, l, laid-row s wide w l)) x ∙ ap (λ (t : Session). readOf t x) (laid-read s wide w)

@@ -12,8 +12,8 @@ use Rattle.summary_calls.specs.declared.ShareAnswer.the-variants.{Refused as No
 use Rattle.summary_calls.specs.Calls.{Wrote, wrote, refused}
 use Rattle.session.specs.declared.Session.{Session}
 use Rattle.session.specs.declared.Step.{Step}
-use Rattle.session.specs.declared.Answer.{Answer}
-use Rattle.session.specs.declared.Answer.the-variants.{Cold, Distance, Refused}
+use Rattle.session_calls.specs.declared.Answer.{Answer}
+use Rattle.session_calls.specs.declared.Answer.the-variants.{Cold, Distance, Refused}
 use Rattle.session.specs.Sessions.{fresh}
 use Rattle.session.specs.Reads.{refused as readRefused, readOf}
 use Rattle.session_summary.specs.Summaries.{summaryCall, missesCall, shareCall}

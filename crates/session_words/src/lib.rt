@@ -1,5 +1,5 @@
 // A session kept in lent words.
-use session::Answer;
+use session_calls::Answer;
 use session::Session;
 use session_layout::SESSION;
 use summary_calls::MissCount;

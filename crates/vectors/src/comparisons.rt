@@ -5,7 +5,7 @@ use crate::count::Count;
 use crate::logs;
 use crate::words;
 use reuse::MAX_EXTENTS;
-use session::Answer;
+use session_calls::Answer;
 use session::Session;
 
 // How many logs there are.

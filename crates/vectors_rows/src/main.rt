@@ -4,7 +4,7 @@ use libc::STDOUT_FILENO;
 use reuse::MAX_EXTENTS;
 use reuse::MAX_READS;
 use reuse::SLOTS;
-use session::Answer;
+use session_calls::Answer;
 use session::Session;
 use session::Step;
 

@@ -4,6 +4,7 @@ use native.Mathlib.Omega.{arith}
 use mathlib.Core.Bool.{true}
 use Rattle.summary_calls.specs.Calls.{shareOf}
 use Rattle.summary_calls.specs.HitShares.{NoneOf, Between}
+use Rattle.summary_calls.specs.declared.ShareAnswer.the-variants.{Answered}
 use Rattle.summary_calls.proofs.HitShares.{share-none, share-between, given-share}
 use Rattle.watch.specs.declared.Watch.{Watch}
 use Rattle.watch.specs.Watching.{soundOf, servableOf, shareCall}

@@ -10,8 +10,8 @@ use Rattle.summary_calls.specs.declared.MissCount.the-variants.{Misses, Refused
 use Rattle.summary_calls.specs.declared.ShareAnswer.{ShareAnswer}
 use Rattle.summary_calls.specs.declared.ShareAnswer.the-variants.{Answered, Refused as NoShare}
 use Rattle.summary_calls.specs.Calls.{shareOf}
-use Rattle.session.specs.declared.Answer.{Answer}
-use Rattle.session.specs.declared.Answer.the-variants.{Cold as ColdRead, Distance as DistanceRead, Refused as NoRead}
+use Rattle.session_calls.specs.declared.Answer.{Answer}
+use Rattle.session_calls.specs.declared.Answer.the-variants.{Cold as ColdRead, Distance as DistanceRead, Refused as NoRead}
 use Rattle.watch.specs.declared.Watch.{Watch}
 use Rattle.watch.specs.declared.Reading.{Reading}
 use Rattle.watch.specs.declared.Reading.the-variants.{Cold, Distance}

@@ -1,5 +1,5 @@
 // A watch on one cache size: reads, cold reads and hits, kept with the caller and changed there by each answer.
-use session::Answer;
+use session_calls::Answer;
 use summary::MissCount;
 use summary::ShareAnswer;
 ghost use mathlib.Core.Path.{_≡_};

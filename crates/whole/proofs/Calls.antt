@@ -18,8 +18,8 @@ use Rattle.reuse.proofs.Traces.{within-front}
 use Rattle.reuse.proofs.Depth.{distance-law}
 use Rattle.session.specs.declared.Session.{Session}
 use Rattle.session.specs.declared.Step.{Step}
-use Rattle.session.specs.declared.Answer.{Answer}
-use Rattle.session.specs.declared.Answer.the-variants.{Cold, Distance, Refused}
+use Rattle.session_calls.specs.declared.Answer.{Answer}
+use Rattle.session_calls.specs.declared.Answer.the-variants.{Cold, Distance, Refused}
 use Rattle.session.specs.Sessions.{fresh}
 use Rattle.session.specs.Reads.{roomed, stepAt, refused as readRefused, readOf}
 use Rattle.session.proofs.Sound.{true-sound, kept-few}

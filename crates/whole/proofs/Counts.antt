@@ -17,8 +17,8 @@ use Rattle.reuse_rows.specs.Rows.{putAt}
 use Rattle.summary_calls.specs.declared.MissCount.the-variants.{Misses}
 use Rattle.summary_calls.specs.declared.ShareAnswer.the-variants.{Answered}
 use Rattle.summary_calls.specs.Calls.{missesCall, shareAt, shareCall}
-use Rattle.session.specs.declared.Answer.{Answer}
-use Rattle.session.specs.declared.Answer.the-variants.{Cold, Distance, Refused}
+use Rattle.session_calls.specs.declared.Answer.{Answer}
+use Rattle.session_calls.specs.declared.Answer.the-variants.{Cold, Distance, Refused}
 use Rattle.session.specs.Sessions.{fresh}
 use Rattle.session_summary.proofs.Summaries.{misses-cache, share-trace}
 use Rattle.watch.specs.declared.Watch.{Watch}

@@ -5,9 +5,8 @@ use mathlib.Core.List.{List, [], _∷_}
 use lib.ListN.{length}
 use Rattle.reuse.specs.Lru.{cold, at}
 use Rattle.reuse_rows.specs.Rows.{putAt}
-use Rattle.session_soundness.specs.Soundness.{Wide}
+use Rattle.session.specs.Sessions.{Wide, fresh}
 use Rattle.session.specs.declared.Step.{Step}
-use Rattle.session.specs.Sessions.{fresh}
 use Rattle.session.specs.Reads.{readOf}
 use Rattle.session_layout.specs.Layout.{sessionLength, sessionLaid}
 use Rattle.session_layout.proofs.Laid.{fresh-wide, laid-fits, laid-over}
@@ -32,7 +31,7 @@ held w s = record { words = putAt w 0 (sessionLaid (s .session)); names = s .nam
 module _ (w : List ℕ) (l : sessionLength ≤ length w) where
   module _ (lent : ℕ) (s : State) (m : Memory) (a : Agrees lent s m) where
     -- the widths of the present session
-    wide : Wide (s .session .first) (s .session .hist) (s .session .slots) (s .session .sums)
+    wide : Wide (s .session)
     wide = a .present .stands .wide
 
     -- the session after a read stands in the words

@@ -12,7 +12,8 @@ use Rattle.reuse.proofs.Stack.{mem-stack}
 use Rattle.reuse.proofs.Traces.{within-front}
 use Rattle.session.specs.declared.Session.{Session}
 use Rattle.session.specs.Sessions.{fresh}
-use Rattle.session.specs.Reads.{roomed, lookedAt, readOf, slotsLooked}
+use Rattle.session_calls.specs.Reads.{slotsLooked}
+use Rattle.session.specs.Reads.{roomed, lookedAt, readOf}
 use Rattle.session_traces.proofs.Stands.{Stands}
 use Rattle.session_traces.proofs.Read.{over, read-stands}
 use Rattle.session_traces.proofs.Looks.{trace-look, read-again}

@@ -26,9 +26,10 @@ use Rattle.after.specs.Calls.{afterCall}
 use Rattle.session_sums.specs.Sums.{pairs, sumsOf, zeros, same}
 use Rattle.session_marks.specs.Marks.{marked, tidy, slotFrom, lookedBelow}
 use Rattle.session_soundness.specs.Soundness.{soundRows}
-use Rattle.session.specs.declared.Answer.the-variants.{Cold, Distance}
+use Rattle.session_calls.specs.declared.Answer.the-variants.{Cold, Distance}
 use Rattle.session.specs.Sessions.{fresh, marks, extents, stackOf, firstRow, sound}
-use Rattle.session.specs.Reads.{gathered, roomed, slotOf, lookedAt, moved, entered, taken, tooMany, readOf, sumsRead, slotsLooked}
+use Rattle.session_calls.specs.Reads.{sumsRead, slotsLooked}
+use Rattle.session.specs.Reads.{gathered, roomed, slotOf, lookedAt, moved, entered, taken, tooMany, readOf}
 use Rattle.whole.specs.Runs.{answersOf, gives}
 use Rattle.moments.specs.Names.{placeLength, namesLength, isName, placeStart, lies, isSet}
 use Rattle.moments.proofs.Places.{names-lie}

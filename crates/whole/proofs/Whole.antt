@@ -12,8 +12,8 @@ use Rattle.reuse.proofs.Formed.{formed}
 use Rattle.reuse.proofs.Newcomers.{trace-numbers}
 use Rattle.reuse.proofs.Prefixes.{prefix-newcomer, prefix-numbers}
 use Rattle.reuse.proofs.Traces.{within-front}
-use Rattle.session.specs.declared.Answer.{Answer}
-use Rattle.session.specs.declared.Answer.the-variants.{Cold, Distance, Refused}
+use Rattle.session_calls.specs.declared.Answer.{Answer}
+use Rattle.session_calls.specs.declared.Answer.the-variants.{Cold, Distance, Refused}
 use Rattle.session.specs.Sessions.{fresh}
 use Rattle.session_traces.proofs.Stands.{fresh-stands}
 use Rattle.session_traces.proofs.Read.{walks}

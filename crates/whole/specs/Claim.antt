@@ -11,10 +11,10 @@ use Rattle.reuse.specs.Cache.{cacheHits}
 use Rattle.reuse.specs.Summary.{summaryOf, wellFormed}
 use Rattle.reuse.specs.Traces.{Within}
 use Rattle.session.specs.declared.Session.{Session}
-use Rattle.session.specs.declared.Answer.{Answer}
-use Rattle.session.specs.declared.Answer.the-variants.{Cold, Distance, Refused}
+use Rattle.session_calls.specs.declared.Answer.{Answer}
+use Rattle.session_calls.specs.declared.Answer.the-variants.{Cold, Distance, Refused}
 use Rattle.session.specs.Sessions.{fresh}
-use Rattle.session.specs.Reads.{slotsLooked}
+use Rattle.session_calls.specs.Reads.{slotsLooked}
 use Rattle.session_traces.specs.Walks.{Walks}
 use Rattle.session_traces.specs.Looks.{Looks}
 use Rattle.session_summary.specs.Summaries.{summaryCall}

@@ -12,7 +12,7 @@ use Rattle.summary_calls.specs.declared.MissCount.the-variants.{Misses}
 use Rattle.summary_calls.specs.declared.ShareAnswer.{ShareAnswer}
 use Rattle.summary_calls.specs.declared.ShareAnswer.the-variants.{Answered}
 use Rattle.summary_calls.specs.Calls.{missesCall, shareOf, shareCall}
-use Rattle.session.specs.declared.Answer.{Answer}
+use Rattle.session_calls.specs.declared.Answer.{Answer}
 use Rattle.session.specs.Sessions.{fresh}
 use Rattle.session_summary.specs.Summaries.{missesCall as sessionMisses, shareCall as sessionShare}
 use Rattle.watch.specs.declared.Watch.{Watch}

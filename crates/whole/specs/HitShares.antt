@@ -11,9 +11,8 @@ use Rattle.summary_calls.specs.declared.HitShare.the-variants.{Share, NoReads}
 use Rattle.summary_calls.specs.declared.ShareAnswer.the-variants.{Answered}
 use Rattle.summary_calls.specs.Calls.{shareCall}
 use Rattle.summary_calls.specs.HitShares.{one, NoneOf, Between, Full}
-use Rattle.session_soundness.specs.Soundness.{Wide}
+use Rattle.session.specs.Sessions.{Wide, extents, sound}
 use Rattle.session.specs.declared.Session.{Session}
-use Rattle.session.specs.Sessions.{extents, sound}
 use Rattle.session_summary.specs.Summaries.{sessionWords, shareCall as sessionShare}
 use Rattle.watch.specs.declared.Watch.{Watch}
 use Rattle.watch.specs.Watching.{soundOf, servableOf as watchServable, shareCall as watchShare}
@@ -50,8 +49,8 @@ pub record AnyHitShares : Type 0 where
   pub watch-none : (w : Watch) → soundOf w ≡ true → NoneOf (watchServable w) (watchShare w)
   -- else between 0 and 1
   pub words-between : (w : List ℕ) (c : ℕ) → Between (shareCall w c)
-  pub session-between : (s : Session) → Wide (s .first) (s .hist) (s .slots) (s .sums) → (c : ℕ) → Between (sessionShare s c)
+  pub session-between : (s : Session) → Wide s → (c : ℕ) → Between (sessionShare s c)
   pub watch-between : (w : Watch) → Between (watchShare w)
   -- exactly 1 at a size of at least v
   pub words-full : (w : List ℕ) (c : ℕ) → extentsOf w ≤ c → Full (shareCall w c)
-  pub session-full : (s : Session) → Wide (s .first) (s .hist) (s .slots) (s .sums) → (c : ℕ) → extents s ≤ c → Full (sessionShare s c)
+  pub session-full : (s : Session) → Wide s → (c : ℕ) → extents s ≤ c → Full (sessionShare s c)

@@ -3,7 +3,7 @@ use Prim.Native.Nat.{ℕ}
 use mathlib.Core.Path.{_≡_}
 use mathlib.Core.List.{List, [], _∷_}
 use Rattle.reuse_rows.specs.Rows.{putAt}
-use Rattle.session.specs.declared.Answer.{Answer}
+use Rattle.session_calls.specs.declared.Answer.{Answer}
 use Rattle.session_layout.specs.Layout.{sessionLaid}
 use Rattle.session_words.specs.Calls.{newSession, readIn, sessionLeft}
 use Rattle.moments_words.specs.Calls.{nameIn, returnIn}

@@ -5,7 +5,8 @@ use mathlib.Core.List.{List, [], _∷_, _++_}
 use Rattle.reuse.specs.Lists.{mem}
 use Rattle.session.specs.declared.Session.{Session}
 use Rattle.session.specs.Sessions.{fresh, stackOf}
-use Rattle.session.specs.Reads.{roomed, lookedAt, readOf, slotsLooked}
+use Rattle.session_calls.specs.Reads.{slotsLooked}
+use Rattle.session.specs.Reads.{roomed, lookedAt, readOf}
 use Rattle.session_traces.specs.Looks.{Look}
 use Rattle.whole.specs.Runs.{sessionAfter}
 

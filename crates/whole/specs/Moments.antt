@@ -4,7 +4,7 @@ use mathlib.Core.Path.{_≡_}
 use mathlib.Core.List.{List, [], _∷_}
 use mathlib.Core.Bool.{false}
 use Rattle.session.specs.declared.Session.{Session}
-use Rattle.session.specs.declared.Answer.{Answer}
+use Rattle.session_calls.specs.declared.Answer.{Answer}
 use Rattle.session.specs.Sessions.{fresh}
 use Rattle.session.specs.Reads.{readOf}
 use Rattle.moments.specs.declared.MomentAnswer.{MomentAnswer}

@@ -7,8 +7,8 @@ use lib.ListN.{length}
 use Rattle.reuse.specs.Limits.{maxReads, maxExtents}
 use Rattle.reuse.specs.Lists.{firsts}
 use Rattle.reuse.specs.Lru.{Reuse, cold, at, distance}
-use Rattle.session.specs.declared.Answer.{Answer}
-use Rattle.session.specs.declared.Answer.the-variants.{Cold, Distance, Refused}
+use Rattle.session_calls.specs.declared.Answer.{Answer}
+use Rattle.session_calls.specs.declared.Answer.the-variants.{Cold, Distance, Refused}
 use Rattle.whole.specs.Runs.{Reply, gives, refused}
 
 -- a read's answer without its counts of sums and slots: cold with its number, a distance, or its refusal

@@ -12,8 +12,8 @@ use Rattle.summary_calls.specs.declared.Written.the-variants.{Words, Refused}
 use Rattle.summary_calls.specs.Calls.{Wrote}
 use Rattle.plan_calls.specs.Calls.{Ran}
 use Rattle.session.specs.declared.Session.{Session}
-use Rattle.session.specs.declared.Answer.{Answer}
-use Rattle.session.specs.declared.Answer.the-variants.{Cold, Distance, Refused as NoRead}
+use Rattle.session_calls.specs.declared.Answer.{Answer}
+use Rattle.session_calls.specs.declared.Answer.the-variants.{Cold, Distance, Refused as NoRead}
 use Rattle.session.specs.Reads.{readOf}
 
 -- the session after a list of read calls: each gets the session that the last returned, refused or not

@@ -19,9 +19,9 @@ use Rattle.summary_calls.specs.Calls.{joinCall, missesCall, shareCall}
 use Rattle.after.specs.Calls.{afterCall}
 use Rattle.texts.specs.Plans.{Plan, depth}
 use Rattle.plan_calls.specs.Calls.{workWords}
-use Rattle.session.specs.declared.Answer.the-variants.{Cold, Distance}
+use Rattle.session_calls.specs.declared.Answer.the-variants.{Cold, Distance}
 use Rattle.session.specs.Sessions.{fresh}
-use Rattle.session.specs.Reads.{sumsRead, slotsLooked}
+use Rattle.session_calls.specs.Reads.{sumsRead, slotsLooked}
 use Rattle.session_summary.specs.Summaries.{shareCall as sessionShare}
 use Rattle.watch.specs.Watching.{newOf, shareCall as watchShare}
 use Rattle.whole.specs.Runs.{sessionAfter, answersOf, gives, outcome}

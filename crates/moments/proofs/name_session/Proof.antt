@@ -6,8 +6,7 @@ use mathlib.Core.Bool.{true}
 use lib.ListN.{length, set}
 use borrow.Rule.Slice.PartMut.{putMid}
 use borrow.Author.Tests.{not-true, not-false}
-use Rattle.session_soundness.specs.Soundness.{Wide}
-use Rattle.session.specs.Sessions.{sound}
+use Rattle.session.specs.Sessions.{Wide, sound}
 use Rattle.moments.specs.Names.{placeLength, isName, lies, namedIn}
 use Rattle.moments.proofs.Places.{place-within, named-length, named-put}
 use Rattle.moments.proofs.Calls.{name-not, name-unsound, name-short, name-done, apart, lies-within, lies-past}
@@ -83,7 +82,7 @@ within : (c : tie.After-slice-known2) → lies (length (given c .args .names .no
 within c = let n = c .before .before .before .before in lies-within _ _ (omega (arith, n .before .place-start .ensures, n .if3 .left))
 
 -- the session has its widths
-wide : (c : tie.Start) → Wide (c .args .s .first) (c .args .s .hist) (c .args .s .slots) (c .args .s .sums)
+wide : (c : tie.Start) → Wide (c .args .s)
 wide c = search needs
 
 -- the words are those with the session under the name

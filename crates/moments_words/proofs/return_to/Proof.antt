@@ -1,7 +1,7 @@
 -- `moments_words::return_to` meets its contract.
 use mathlib.Core.Path.{sym, _∙_}
 use borrow.Author.Tests.{not-true, not-false}
-use Rattle.session_soundness.specs.Soundness.{Wide}
+use Rattle.session.specs.Sessions.{Wide}
 use Rattle.session_layout.proofs.Laid.{laid-fits}
 use Rattle.moments_words.proofs.Kept.{came-refused, came-short, came-all, apart}
 use borrow.Author.Needs.{needs}
@@ -29,7 +29,7 @@ returns-2 c =
     apart _ _ (came-short _ _ _ _ (r .result) (r .ensures) (sym (n .before .done .ensures) ∙ not-false _ (n .if1 .left)) (c .if2 .taken))
 
 -- the session under the name has its widths
-wide : (c : tie.Else1) → let s = c .before .before .return-to .result .session in Wide (s .first) (s .hist) (s .slots) (s .sums)
+wide : (c : tie.Else1) → let s = c .before .before .return-to .result .session in Wide s
 wide c = search needs
 
 put-session-requires : tie.Need-put-session-requires

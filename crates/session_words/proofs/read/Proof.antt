@@ -3,7 +3,7 @@ use mathlib.Core.Path.{_≡_, sym, ap, _∙_}
 use Prim.Native.Nat.{_≤_}
 use lib.ListN.{length}
 use borrow.Author.Tests.{not-true, not-false}
-use Rattle.session_soundness.specs.Soundness.{Wide}
+use Rattle.session.specs.Sessions.{Wide}
 use Rattle.session.specs.declared.Session.{Session}
 use Rattle.session.specs.declared.Step.{Step}
 use Rattle.session.specs.Reads.{readOf}
@@ -61,7 +61,7 @@ abbrev left : tie.After-accepted → Session
 left c = c .before .read .result .session
 
 -- it has its widths
-wide : (c : tie.After-accepted) → Wide (left c .first) (left c .hist) (left c .slots) (left c .sums)
+wide : (c : tie.After-accepted) → Wide (left c)
 wide c = search needs
 
 returns-2 : tie.Need-returns-2
