@@ -142,7 +142,7 @@ fn the_sums_on_the_way_up_are_the_marks_above() {
         let marks = session::marks(&words);
         for (place, slot) in marks.iter().enumerate() {
             let wanted = (marks.len() - place, last_slots::zeros(*slot));
-            tally.same(session::way_up(&words[session::SUMS], *slot), wanted, &(&marks, slot));
+            tally.same(session::way_up(&words[session::RIGHTS], *slot), wanted, &(&marks, slot));
         }
     }
     tally.at_least(1500);

@@ -1,7 +1,7 @@
 //! The slots looked at: from the slot below next down to the extent's mark, or all of them for a cold read.
 
 use jemqolu_tests::plain::last_slots::{self, zeros};
-use jemqolu_tests::plain::session::{self, Reading, COUNTS, DIGITS, FIRSTS, NEXT, READS, SLOT, SLOTS, SUMS, WORDS};
+use jemqolu_tests::plain::session::{self, Reading, COUNT, COUNTS, DIGITS, FIRSTS, NEXT, READS, SLOT, SLOTS, WORDS};
 use jemqolu_tests::plain::{trace, COLD_BASE, MAX_EXTENTS, MAX_READS};
 use jemqolu_tests::random::Random;
 use jemqolu_tests::tally::Tally;
@@ -228,6 +228,11 @@ fn every_extent_straight_after_the_marks_moved() {
     tally.at_least(500);
 }
 
+/// The leaves of one mark.
+fn one_leaf(slot: usize) -> Vec<u32> {
+    (0..SLOTS).map(|other| u32::from(other == slot)).collect()
+}
+
 #[test]
 fn every_slot_below_the_next() {
     let mut tally = Tally::new("one mark in every slot below many nexts");
@@ -236,8 +241,8 @@ fn every_slot_below_the_next() {
         let (extent, another) = if slot % 2 == 0 { (0, 5) } else { (5, 0) };
         let mut words = session::new();
         (words[READS], words[FIRSTS.start], words[COUNTS.start]) = (4, extent, 3);
-        (words[SLOT.start + slot], words[SUMS.start + slot]) = (extent, 1);
-        session::resum(&mut words);
+        words[SLOT][slot] = extent;
+        session::set_leaves(&mut words, &one_leaf(slot));
         // the nexts next to the slot, the last ones, and one in so many between, others for each slot
         for next in spread::places_of(slot + 1..SLOTS + 1, SLOTS / 8, slot) {
             words[NEXT] = next as u32;
@@ -295,7 +300,7 @@ fn refusals_leave_both_places() {
     ] {
         for (next, places) in nexts.into_iter().flat_map(|next| PLACES.map(|places| (next, places))) {
             let mut words = made::session_over(&mut random, &known[..extents], reads - extents, next);
-            words[SUMS.end - 1] ^= u32::from(damaged);
+            words[COUNT] ^= u32::from(damaged);
             let before = words.clone();
             // a known extent is refused too, but for 9
             let read = if wanted == refusal::EXTENTS { vec![another] } else { vec![another, 1] };
