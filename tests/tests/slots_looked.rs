@@ -1,5 +1,6 @@
 //! The slots looked at: from the slot below next down to the extent's mark, or all of them for a cold read.
 
+use jemqolu_tests::long_logs::{self, KINDS, LONG, MOVES};
 use jemqolu_tests::plain::last_slots::{self, zeros};
 use jemqolu_tests::plain::session::{self, Reading, COUNT, COUNTS, DIGITS, FIRSTS, NEXT, READS, SLOT, SLOTS, WORDS};
 use jemqolu_tests::plain::{trace, COLD_BASE, MAX_EXTENTS, MAX_READS};
@@ -8,42 +9,8 @@ use jemqolu_tests::tally::Tally;
 use jemqolu_tests::{calls, ffi, made, refusal, spread, Answer};
 use std::sync::OnceLock;
 
-/// The kinds of long logs.
-const KINDS: usize = 10;
-/// The reads of each long log.
-const LONG: usize = 6 * SLOTS;
-/// The fewest moves of the marks in a long log: one in as many reads as there are slots, but for the first so many.
-const MOVES: usize = LONG / SLOTS - 1;
 /// What may stand in the places for the sums read and the slots looked at before a read.
 const PLACES: [[u32; 2]; 4] = [[77, 78], [0, 0], [u32::MAX, 1], [1, u32::MAX]];
-
-/// Which of all extents that a log may have a read of a long log is of. The kinds: one extent, 3, 40 or all of them at
-/// random, skewed, a scan of all or of all but one, a scan there and back, more and more extents, or in phases.
-fn place(random: &mut Random, kind: usize, read: usize) -> usize {
-    let there_and_back = 2 * (MAX_EXTENTS - 1);
-    match kind {
-        0 => 0,
-        1 => random.below(3),
-        2 => random.below(40),
-        3 => random.below(MAX_EXTENTS),
-        4 => made::skewed(random, MAX_EXTENTS),
-        5 => read % MAX_EXTENTS,
-        6 => read % (MAX_EXTENTS - 1),
-        7 => (read % there_and_back).min(there_and_back - read % there_and_back),
-        8 => random.below((1 + read * MAX_EXTENTS / (LONG - SLOTS)).min(MAX_EXTENTS)),
-        _ => (read / 700 * 31 + random.below(9)) % MAX_EXTENTS,
-    }
-}
-
-/// A long log of each kind.
-fn long_logs() -> Vec<Vec<u32>> {
-    let mut random = Random::new(181);
-    let log = |kind: usize| {
-        let extents = made::extents(&mut random, MAX_EXTENTS);
-        (0..LONG).map(|read| extents[place(&mut random, kind, read)]).collect()
-    };
-    (0..KINDS).map(log).collect()
-}
 
 /// A read's answer, and the next slot that it found after any move of the marks.
 struct Found {
@@ -85,7 +52,7 @@ fn run(reads: Vec<u32>) -> Run {
 /// The long logs, read once for all tests.
 fn long_runs() -> &'static [Run] {
     static RUNS: OnceLock<Vec<Run>> = OnceLock::new();
-    RUNS.get_or_init(|| long_logs().into_iter().map(run).collect())
+    RUNS.get_or_init(|| long_logs::all(&mut Random::new(181)).into_iter().map(run).collect())
 }
 
 /// Whether the marks moved before a read.
