@@ -243,7 +243,7 @@ fn several_words_changed() {
         let words = damage::several_words_changed(&mut random);
         compare(&mut tally, &mut random, &mut seen, &words, 1 + turn % 8);
     }
-    assert!(seen.sound >= 350 && seen.refused >= 600, "{} sound, {} refused", seen.sound, seen.refused);
+    assert!(seen.sound >= 500 && seen.refused >= 1000, "{} sound, {} refused", seen.sound, seen.refused);
     tally.at_least(10_000);
 }
 

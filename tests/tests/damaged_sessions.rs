@@ -72,7 +72,7 @@ fn several_words_changed() {
         let extent = random.of(&[known, known, new]);
         compare(&mut tally, &mut seen, &words, extent);
     }
-    assert!(seen.sound >= 750 && seen.refused >= 1250, "{} sound, {} refused", seen.sound, seen.refused);
+    assert!(seen.sound >= 1000 && seen.refused >= 2000, "{} sound, {} refused", seen.sound, seen.refused);
     tally.at_least(4000 * 5);
 }
 

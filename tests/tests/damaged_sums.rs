@@ -80,25 +80,44 @@ fn bases() -> Vec<Vec<u32>> {
     bases
 }
 
+/// What a right-hand sum is changed to: one more, many more, one less, and the largest number, which is one less than 0.
+fn changes(right: u32) -> Vec<u32> {
+    let mut changes = vec![right + 1, right + (1 << 20), right.wrapping_sub(1), u32::MAX];
+    changes.dedup();
+    changes
+}
+
 #[test]
 fn every_right_hand_sum_changed_alone() {
     let (mut tally, mut seen) = (Tally::new("sessions with one right-hand sum changed"), Seen::default());
-    for base in bases() {
-        for point in 0..POINTS {
-            let right = base[RIGHTS][point];
-            let changes = [right + 1, right.wrapping_sub(1), right + (1 << 20), u32::MAX];
-            // where there is no right-hand sum to lower, one less is the largest number
-            for change in changes.iter().take(if right == 0 { 3 } else { 4 }) {
+    for base in &bases()[..4] {
+        for (point, right) in base[RIGHTS].iter().enumerate() {
+            for change in changes(*right) {
                 let mut words = base.clone();
-                words[RIGHTS][point] = *change;
+                words[RIGHTS][point] = change;
                 compare(&mut tally, &mut seen, &words, 0);
             }
         }
     }
-    // extent 0 is marked in another slot then: only its mark can move, and its slot holds what the others hold
-    assert!((20..200).contains(&seen.sound), "{} sound", seen.sound);
-    assert!(seen.refused as usize >= 7 * 3 * POINTS - 200, "{} refused", seen.refused);
-    tally.at_least(7 * 3 * POINTS as u64 * EACH);
+    // sound where the mark of extent 0 moves, whose slot holds what the empty ones hold: from slot 0 or from the middle one
+    // to the first slot under any right child above it or back to slot 0, or to the slot beside it
+    assert_eq!(seen.sound, 11 + 11 + 1 + 1);
+    assert!((seen.sound + seen.refused) as usize >= 12 * POINTS, "{} refused", seen.refused);
+    tally.at_least(12 * POINTS as u64 * EACH);
+}
+
+#[test]
+fn every_right_hand_sum_of_many_marks_changed_alone() {
+    let (mut tally, mut seen) = (Tally::new("sessions of many marks with one right-hand sum changed"), Seen::default());
+    for (turn, base) in bases()[4..].iter().enumerate() {
+        for (point, right) in base[RIGHTS].iter().enumerate() {
+            let (changes, mut words) = (changes(*right), base.clone());
+            words[RIGHTS][point] = changes[(turn + point) % changes.len()];
+            compare(&mut tally, &mut seen, &words, 0);
+        }
+    }
+    assert!(seen.refused as usize >= 3 * POINTS - 9, "{} sound, {} refused", seen.sound, seen.refused);
+    tally.at_least(3 * POINTS as u64 * EACH);
 }
 
 #[test]
@@ -218,8 +237,8 @@ fn a_leaf_of_two_beside_a_leaf_of_none() {
 #[test]
 fn marks_that_the_sums_above_leave_out() {
     let (mut tally, mut seen) = (Tally::new("sessions with more under a point than above it"), Seen::default());
-    for (slot, level) in (0..SLOTS).flat_map(|slot| [0, 1 + slot % 10].map(|level| (slot, level))) {
-        // the way up from the slot: right-hand sums are right up to this level, and 0 above it, and so is the count or not
+    for (slot, level) in (0..SLOTS).map(|slot| (slot, slot * 7 % DIGITS as usize)) {
+        // on the way up from the slot the right-hand sums are right up to this level, and 0 above it
         let whole = marked(&[(slot, 5)], SLOTS);
         let mut words = marked(&[], SLOTS);
         for below in 0..=level {
@@ -233,8 +252,8 @@ fn marks_that_the_sums_above_leave_out() {
         }
     }
     // with the count it is sound where the way up goes into no right child above that level
-    assert!(seen.sound >= 100 && seen.refused >= 11_000, "{} sound, {} refused", seen.sound, seen.refused);
-    tally.at_least(6 * SLOTS as u64 * EACH);
+    assert!(seen.sound >= 100 && seen.refused >= 5000, "{} sound, {} refused", seen.sound, seen.refused);
+    tally.at_least(3 * SLOTS as u64 * EACH);
 }
 
 /// Changes sums, one or a few, or the slot in which the sums mark extent 0.
@@ -276,6 +295,6 @@ fn several_sums_changed() {
         }
         compare(&mut tally, &mut seen, &words, random.of(&[0, extents[0], 77]));
     }
-    assert!(seen.sound >= 500 && seen.refused >= 1500, "{} sound, {} refused", seen.sound, seen.refused);
+    assert!(seen.sound >= 500 && seen.refused >= 2000, "{} sound, {} refused", seen.sound, seen.refused);
     tally.at_least(3000 * EACH);
 }

@@ -250,8 +250,10 @@ fn sought(words: &[u32]) -> Vec<Vec<u32>> {
     };
     let of_0 = (0..SLOTS).filter(|slot| leaves[*slot] == 0).map(Some);
     let marks = iter::once(None).chain(of_0).map(with).filter(|leaves| leaves.iter().sum::<u32>() == words[COUNT]);
-    let all = marks.map(|leaves| [&words[..COUNT], &full_session::sums_over(&leaves), &words[NEXT..]].concat());
-    all.filter(|full| forms::right_hand(full) == words && full_session::sound(full)).collect()
+    let sums = marks.map(|leaves| full_session::sums_over(&leaves));
+    let given = sums.filter(|sums| sums.iter().skip(1).step_by(2).eq(&words[RIGHTS]));
+    let all = given.map(|sums| [&words[..COUNT], &sums, &words[NEXT..]].concat());
+    all.filter(|full| full_session::sound(full)).collect()
 }
 
 #[test]

@@ -41,12 +41,6 @@ pub fn sums_over(leaves: &[u32]) -> Vec<u32> {
     sums
 }
 
-/// Makes the sums true for their leaves.
-pub fn resum(words: &mut [u32]) {
-    let sums = sums_over(&words[SUMS][..SLOTS]);
-    words[SUMS].copy_from_slice(&sums);
-}
-
 /// The marked slots, in order.
 pub fn marks(words: &[u32]) -> Vec<usize> {
     let leaves = &words[SUMS][..SLOTS];
@@ -132,7 +126,7 @@ fn gather(words: &mut [u32]) {
 
 /// The walk from the slot below next down, to the extent's mark or past slot 0: the mark's slot, where there is one, and
 /// the number of slots looked at.
-pub fn walk_down(words: &[u32], extent: u32) -> (Option<usize>, u32) {
+fn walk_down(words: &[u32], extent: u32) -> (Option<usize>, u32) {
     let (mut slot, mut slots_looked) = (words[NEXT] as usize, 0);
     while slot > 0 {
         slot -= 1;
@@ -146,7 +140,7 @@ pub fn walk_down(words: &[u32], extent: u32) -> (Option<usize>, u32) {
 
 /// The way up from a marked slot, by the sums of right-hand neighbours wherever it leaves a left child: the distance, and
 /// the number of sums read.
-pub fn way_up(sums: &[u32], slot: usize) -> (usize, u32) {
+fn way_up(sums: &[u32], slot: usize) -> (usize, u32) {
     let (mut place, mut total, mut sums_read) = (slot, 0, 0);
     while place != SUMS.len() - 1 {
         if place % 2 == 0 {
@@ -181,15 +175,6 @@ pub fn accept(words: &mut [u32], extent: u32) -> Reading {
     words[NEXT] += 1;
     words[READS] += 1;
     Reading { word, sums_read, slots_looked }
-}
-
-/// The session that has read a trace within the limits.
-pub fn of(trace: &[u32]) -> Vec<u32> {
-    let mut words = new();
-    for extent in trace {
-        accept(&mut words, *extent);
-    }
-    words
 }
 
 /// The call for one more read; a refusal leaves the session as it was.
@@ -237,6 +222,6 @@ pub fn misses(words: &[u32], size: u32) -> Answer<u64> {
 /// The call for the hit share; each mark had a cold read.
 pub fn share(words: &[u32], size: u32) -> Answer<Option<f64>> {
     let misses = misses(words, size)?;
-    let reads = u64::from(words[0]);
+    let reads = u64::from(words[READS]);
     Ok(hit_share(reads - misses, reads - marks(words).len() as u64))
 }
