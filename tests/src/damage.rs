@@ -1,16 +1,24 @@
 //! Sessions to damage, sessions damaged in all ways, and a count of them.
 
-use crate::plain::session::{self, COUNTS, DIGITS, FIRSTS, NEXT, READS, SLOT, SLOTS, SUMS, WORDS};
+use crate::plain::session::{self, COUNT, COUNTS, DIGITS, FIRSTS, NEXT, POINTS, READS, RIGHTS, SLOT, SLOTS, WORDS};
 use crate::plain::{MAX_EXTENTS, MAX_READS};
 use crate::random::Random;
 use crate::{made, spread};
 use std::ops::Range;
 
-/// Where each field of a session stands, the leaves and the other sums apart.
-const FIELDS: [Range<usize>; 7] =
-    [READS..FIRSTS.start, FIRSTS, COUNTS, SLOT, SUMS.start..PARENTS, PARENTS..SUMS.end, NEXT..WORDS];
-/// Where the sums above the leaves stand.
-const PARENTS: usize = SUMS.start + SLOTS;
+/// Where each field of a session stands, the lowest right-hand sums and those above them apart.
+const FIELDS: [Range<usize>; 8] = [
+    READS..FIRSTS.start,
+    FIRSTS,
+    COUNTS,
+    SLOT,
+    COUNT..RIGHTS.start,
+    RIGHTS.start..HIGHER,
+    HIGHER..RIGHTS.end,
+    NEXT..WORDS,
+];
+/// Where the right-hand sums above the lowest points stand.
+const HIGHER: usize = RIGHTS.start + SLOTS / 2;
 
 /// How many of the sessions handed in were sound, and how many were not.
 #[derive(Default)]
@@ -77,7 +85,7 @@ pub fn words_changed(random: &mut Random, base: &[u32], among: usize, turn: usiz
 
 /// The session cut short, whole, and with words past it.
 pub fn lengths(base: &[u32]) -> Vec<Vec<u32>> {
-    let cut = [0, 1, SLOT.start, SUMS.start, WORDS - 2, WORDS - 1, WORDS].map(|len| base[..len].to_vec());
+    let cut = [0, 1, SLOT.start, COUNT, RIGHTS.start, WORDS - 2, WORDS - 1, WORDS].map(|len| base[..len].to_vec());
     let longer = [&[0][..], &[1], &[u32::MAX; 3], &[5; 100]].map(|past| [base, past].concat());
     cut.into_iter().chain(longer).collect()
 }
@@ -92,36 +100,58 @@ fn any_or_of(random: &mut Random, bound: usize, few: &[usize]) -> usize {
     }
 }
 
-/// Changes words of a session by one of twelve rules.
-fn change(random: &mut Random, words: &mut [u32], rule: usize) {
-    let marks = session::marks(words);
+/// Changes words of a session other than its sums by one of eight rules.
+fn change_words(random: &mut Random, words: &mut [u32], marks: &[usize]) {
     let extents: Vec<usize> = (0..marks.len().min(MAX_EXTENTS)).collect();
-    let [one, other] = [0, 1].map(|_| any_or_of(random, SLOTS, &marks));
+    let [one, other] = [0, 1].map(|_| any_or_of(random, SLOTS, marks));
     let [first, second] = [0, 1].map(|_| any_or_of(random, MAX_EXTENTS, &extents));
-    match rule {
+    match random.below(8) {
         0 => words.swap(FIRSTS.start + first, FIRSTS.start + second),
         1 => words.swap(COUNTS.start + first, COUNTS.start + second),
         2 => words.swap(SLOT.start + one, SLOT.start + other),
-        3 => words.swap(SUMS.start + one, SUMS.start + other),
-        4 => {
-            words.swap(SUMS.start + one, SUMS.start + other);
-            words.swap(SLOT.start + one, SLOT.start + other);
-            session::resum(words);
-        }
-        5 => {
+        3 => {
             words[READS] = words[READS].wrapping_add(1);
             words[COUNTS.start + first] += 1;
         }
-        6 => words[NEXT] = random.below(SLOTS + 2) as u32,
-        7 => {
-            words[SUMS.start + one] ^= 1;
-            session::resum(words);
-        }
-        8 => words[FIRSTS.start + first] = words[FIRSTS.start + second],
-        9 => words[SLOT.start + one] = words[SLOT.start + other],
-        10 => words.swap(PARENTS + one / 2, PARENTS + other / 2),
+        4 => words[NEXT] = random.below(SLOTS + 2) as u32,
+        5 => words[FIRSTS.start + first] = words[FIRSTS.start + second],
+        6 => words[SLOT.start + one] = words[SLOT.start + other],
         _ => rename(words, words[FIRSTS.start + first], random.word()),
     }
+}
+
+/// Changes the sums of a session, the slots with them or not, by one of eight rules.
+fn change_sums(random: &mut Random, words: &mut [u32], marks: &[usize]) {
+    let [one, other] = [0, 1].map(|_| any_or_of(random, SLOTS, marks));
+    let mut leaves = session::leaves(words).unwrap_or_else(|| vec![0; SLOTS]);
+    match random.below(8) {
+        0 => words.swap(RIGHTS.start + one / 2, RIGHTS.start + other / 2),
+        1 => words.swap(HIGHER + one / 4, HIGHER + other / 4),
+        2 => words[COUNT] ^= 1,
+        3 => words[RIGHTS.start + over(one, random.below(DIGITS as usize))] ^= 1,
+        4 => {
+            words[COUNT] += 1;
+            words[RIGHTS.start + over(one, random.below(DIGITS as usize))] += 1;
+        }
+        5 => {
+            leaves.swap(one, other);
+            session::set_leaves(words, &leaves);
+        }
+        6 => {
+            leaves.swap(one, other);
+            words.swap(SLOT.start + one, SLOT.start + other);
+            session::set_leaves(words, &leaves);
+        }
+        _ => {
+            leaves[one] ^= 1;
+            session::set_leaves(words, &leaves);
+        }
+    }
+}
+
+/// The branching point over a slot, so many levels above the lowest.
+pub fn over(slot: usize, level: usize) -> usize {
+    (0..level).fold(slot / 2, |point, _| (SLOTS + point) / 2)
 }
 
 /// Gives an extent another number in F and in its slot.
@@ -138,18 +168,22 @@ fn rename(words: &mut [u32], from: u32, to: u32) {
 pub fn several_words_changed(random: &mut Random) -> Vec<u32> {
     let mut words = made::session(random);
     for _ in 0..1 + random.below(2) {
-        let rule = random.below(12);
-        change(random, &mut words, rule);
+        let marks = session::marks(&words);
+        if random.one_in(2) {
+            change_words(random, &mut words, &marks);
+        } else {
+            change_sums(random, &mut words, &marks);
+        }
     }
     words
 }
 
 /// A session with marks in these slots, over the extents 10, 11 and so on, and so many reads that are not cold.
 fn marked(slots: &[usize], warm: u32, next: u32) -> Vec<u32> {
-    let mut words = session::new();
+    let (mut words, mut leaves) = (session::new(), [0; SLOTS]);
     for (place, slot) in slots.iter().enumerate() {
         words[SLOT][*slot] = 10 + place as u32;
-        words[SUMS][*slot] = 1;
+        leaves[*slot] = 1;
         if place < MAX_EXTENTS {
             words[FIRSTS][place] = 10 + place as u32;
         }
@@ -157,7 +191,7 @@ fn marked(slots: &[usize], warm: u32, next: u32) -> Vec<u32> {
     words[COUNTS][0] = warm;
     words[READS] = slots.len() as u32 + warm;
     words[NEXT] = next;
-    session::resum(&mut words);
+    session::set_leaves(&mut words, &leaves);
     words
 }
 
@@ -186,23 +220,27 @@ pub fn each_clause_broken() -> Vec<Vec<u32>> {
     list
 }
 
-/// Adds to a sum and to every sum above it, modulo 2^32.
-fn add_above(words: &mut [u32], place: usize, number: u32) {
-    let mut place = place;
-    while place < SUMS.len() {
-        words[SUMS][place] = words[SUMS][place].wrapping_add(number);
-        place = SLOTS + place / 2;
+/// Adds to a right-hand sum, to each one that has it beneath, and to the count, modulo 2^32; to the count alone where the
+/// point is past the root. What is under the left child of each point stays.
+fn add_above(words: &mut [u32], point: usize, number: u32) {
+    words[COUNT] = words[COUNT].wrapping_add(number);
+    let mut node = 2 * point + 1;
+    while node / 2 < POINTS {
+        if node % 2 == 1 {
+            words[RIGHTS][node / 2] = words[RIGHTS][node / 2].wrapping_add(number);
+        }
+        node = SLOTS + node / 2;
     }
 }
 
-/// Where the sums of each level stand among the sums, the leaves first, the root last.
-fn levels() -> Vec<Range<usize>> {
-    let starts = (0..=DIGITS).map(|level| 2 * SLOTS - ((2 * SLOTS) >> level));
-    starts.map(|start| start..start + (SUMS.len() + 1 - start) / 2).collect()
+/// The points of each level, the lowest first, the root last, and a number past the root.
+pub fn levels() -> Vec<Range<usize>> {
+    let starts = (0..=DIGITS).map(|level| SLOTS - (SLOTS >> level));
+    starts.map(|start| start..start + (SLOTS - start).div_ceil(2)).collect()
 }
 
-/// The session with one sum in so many changed and all above it too, one at a time: the sums of this turn, and the first
-/// two and the last two of each level; how many sessions these are.
+/// The session with one right-hand sum in so many changed and all above it too, or with the count changed, one at a time:
+/// the sums of this turn, and the first two and the last two of each level; how many sessions these are.
 pub fn sums_changed(
     random: &mut Random,
     base: &[u32],
@@ -210,31 +248,34 @@ pub fn sums_changed(
     turn: usize,
     mut visit: impl FnMut(&[u32]),
 ) -> u32 {
-    let places = spread::places(&levels(), among, turn);
-    for place in &places {
+    let points = spread::places(&levels(), among, turn);
+    for point in &points {
         let mut words = base.to_vec();
-        add_above(&mut words, *place, random.of(&[1, 2, u32::MAX, 1 << 31]));
+        add_above(&mut words, *point, random.of(&[1, 2, u32::MAX, 1 << 31]));
         visit(&words);
     }
-    places.len() as u32
+    points.len() as u32
 }
 
-/// Two sound sessions, and seven whose sums or counts agree only modulo 2^32 or not at all.
+/// Two sound sessions, and nine whose sums or counts agree only modulo 2^32 or not at all.
 pub fn sums_modulo() -> Vec<Vec<u32>> {
     let sound = marked(&[0, 1, 6, 7], 4, 9);
     let mut list = vec![sound.clone()];
-    for (places, one, other) in [
-        (SUMS.start, 2, 0),
-        (SUMS.start, 0, 2),
-        (SUMS.start, u32::MAX, 3),
-        (SUMS.start, 1 << 31, (1 << 31) + 2),
-        (COUNTS.start, 3, 1),
-        (COUNTS.start, u32::MAX, 5),
-        (COUNTS.start, 1 << 31, (1 << 31) + 4),
-        (PARENTS, u32::MAX, 3),
-    ] {
+    // of the two marks in the slots 0 and 1 so many are left for slot 0: 2, 0, or a number below 0
+    for right in [0, 2, 3, (1 << 31) + 2, u32::MAX] {
         let mut words = sound.clone();
-        (words[places], words[places + 1]) = (one, other);
+        words[RIGHTS.start] = right;
+        list.push(words);
+    }
+    for (one, other) in [(3, 1), (u32::MAX, 5), (1 << 31, (1 << 31) + 4)] {
+        let mut words = sound.clone();
+        (words[COUNTS][0], words[COUNTS][1]) = (one, other);
+        list.push(words);
+    }
+    // more under a right child than in all, over the slots 0 to 3 and over all of them
+    for point in [over(0, 1), POINTS - 1] {
+        let mut words = sound.clone();
+        words[RIGHTS][point] = 5;
         list.push(words);
     }
     list

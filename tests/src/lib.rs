@@ -5,6 +5,7 @@ pub mod damage;
 pub mod ffi;
 pub mod guard;
 pub mod header;
+pub mod long_logs;
 pub mod made;
 pub mod parts;
 pub mod plain;

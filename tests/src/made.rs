@@ -1,8 +1,8 @@
 //! Made inputs: traces, summaries and sessions that no trace has, least shares, and plans.
 
 use crate::plain::plans::{Plan, MAX_PARTS};
-use crate::plain::session::{self, sums_over};
-use crate::plain::MAX_EXTENTS;
+use crate::plain::session::{rights_over, COUNT, COUNTS, FIRSTS, READS, SLOT, SLOTS};
+use crate::plain::{full_session, MAX_EXTENTS};
 use crate::random::Random;
 use std::collections::HashSet;
 
@@ -151,33 +151,71 @@ pub fn leasts(random: &mut Random, store: u32, customers: usize) -> Vec<u32> {
     }
 }
 
+/// What the two forms of a session have in common: the words before the sums, the leaves, and the next slot.
+struct Common {
+    front: Vec<u32>,
+    leaves: Vec<u32>,
+    next: u32,
+}
+
+impl Common {
+    /// Of a sound session with these extents in slots at random and so many reads that are not cold.
+    fn over(random: &mut Random, extents: &[u32], warm: usize, next: usize) -> Self {
+        let v = extents.len();
+        let warm = if v == 0 { 0 } else { warm };
+        let below: Vec<usize> = (0..next).collect();
+        let (mut front, mut leaves) = (vec![0; COUNT], vec![0; SLOTS]);
+        for (slot, extent) in random.shuffled(&below).iter().zip(extents) {
+            front[SLOT][*slot] = *extent;
+            leaves[*slot] = 1;
+        }
+        front[READS] = (v + warm) as u32;
+        front[FIRSTS][..v].copy_from_slice(&random.shuffled(extents));
+        front[COUNTS][..v].copy_from_slice(&split(random, warm, v));
+        Common { front, leaves, next: next as u32 }
+    }
+
+    /// Of a sound session with up to so many extents.
+    fn any(random: &mut Random, most_extents: usize) -> Self {
+        let v = random.below(most_extents + 1);
+        let extents = extents(random, v);
+        let next = if random.one_in(3) { SLOTS } else { v + random.below(SLOTS - v) };
+        let warm = random.below(5000);
+        Common::over(random, &extents, warm, next)
+    }
+
+    /// The session with a count and right-hand sums alone.
+    fn session(&self) -> Vec<u32> {
+        let count = self.leaves.iter().sum();
+        [&self.front[..], &[count], &rights_over(&self.leaves), &[self.next]].concat()
+    }
+
+    /// The session with all sums.
+    fn full_session(&self) -> Vec<u32> {
+        [&self.front[..], &full_session::sums_over(&self.leaves), &[self.next]].concat()
+    }
+}
+
 /// A sound session with these extents and so many reads that are not cold, whether or not a trace has it.
 pub fn session_over(random: &mut Random, extents: &[u32], warm: usize, next: usize) -> Vec<u32> {
-    let v = extents.len();
-    let warm = if v == 0 { 0 } else { warm };
-    let below: Vec<usize> = (0..next).collect();
-    let mut words = session::new();
-    let mut leaves = vec![0; session::SLOTS];
-    for (slot, extent) in random.shuffled(&below).iter().zip(extents) {
-        words[session::SLOT][*slot] = *extent;
-        leaves[*slot] = 1;
-    }
-    words[session::READS] = (v + warm) as u32;
-    words[session::FIRSTS][..v].copy_from_slice(&random.shuffled(extents));
-    words[session::COUNTS][..v].copy_from_slice(&split(random, warm, v));
-    words[session::SUMS].copy_from_slice(&sums_over(&leaves));
-    words[session::NEXT] = next as u32;
-    words
+    Common::over(random, extents, warm, next).session()
+}
+
+/// The same with all sums.
+pub fn full_session_over(random: &mut Random, extents: &[u32], warm: usize, next: usize) -> Vec<u32> {
+    Common::over(random, extents, warm, next).full_session()
 }
 
 /// A sound session, whether or not a trace has it.
 pub fn session(random: &mut Random) -> Vec<u32> {
     let most = random.of(&[4, 30, MAX_EXTENTS]);
-    let v = random.below(most + 1);
-    let extents = extents(random, v);
-    let next = if random.one_in(3) { session::SLOTS } else { v + random.below(session::SLOTS - v) };
-    let warm = random.below(5000);
-    session_over(random, &extents, warm, next)
+    Common::any(random, most).session()
+}
+
+/// The same with all sums.
+pub fn full_session(random: &mut Random) -> Vec<u32> {
+    let most = random.of(&[4, 30, MAX_EXTENTS]);
+    Common::any(random, most).full_session()
 }
 
 /// A plan of this depth, with small segs.

@@ -2,7 +2,7 @@
 
 use jemqolu_tests::damage::{self, Seen};
 use jemqolu_tests::plain::names::{self, MAX_NAMES, NAME_WORDS};
-use jemqolu_tests::plain::session::{self, NEXT, SLOTS, SUMS, WORDS};
+use jemqolu_tests::plain::session::{self, COUNT, NEXT, POINTS, SLOTS, WORDS};
 use jemqolu_tests::random::Random;
 use jemqolu_tests::tally::Tally;
 use jemqolu_tests::{calls, made, refusal, Answer};
@@ -99,7 +99,7 @@ fn refusals_of_a_naming_in_order() {
     let mut random = Random::new(181);
     let sound = made::session(&mut random);
     let mut unsound = sound.clone();
-    unsound[SUMS.end - 1] ^= 1;
+    unsound[COUNT] ^= 1;
     // a ninth place, so that only its number tells that 9 is no name
     let names = random_words(&mut random, 9 * NAME_WORDS);
     for session in [&sound, &unsound, &sound[..WORDS - 1], &unsound[..WORDS - 1], &[][..]] {
@@ -120,7 +120,7 @@ fn refusals_of_a_return_in_order() {
     let mut random = Random::new(182);
     for (set, sound) in [(0, false), (0, true), (1, false), (1, true), (7, true), (u32::MAX, false), (1 << 31, true)] {
         let mut under = made::session(&mut random);
-        under[SUMS.end - 1] ^= u32::from(!sound);
+        under[COUNT] ^= u32::from(!sound);
         let names = [&[set], &under[..]].concat().repeat(9);
         for room in [0, 1, WORDS - 2, WORDS - 1, WORDS, WORDS + 1, 2 * NAME_WORDS] {
             let session = random_words(&mut random, room);
@@ -215,8 +215,8 @@ fn sessions_of_other_lengths() {
         done += u32::from(answer == Ok(0));
         refused += u32::from(answer == Err(refusal::STATE));
     }
-    assert_eq!((done, refused), (60, 72));
-    tally.at_least(264);
+    assert_eq!((done, refused), (60, 84));
+    tally.at_least(288);
 }
 
 #[test]
@@ -243,7 +243,7 @@ fn several_words_changed() {
         let words = damage::several_words_changed(&mut random);
         compare(&mut tally, &mut random, &mut seen, &words, 1 + turn % 8);
     }
-    assert!(seen.sound >= 350 && seen.refused >= 600, "{} sound, {} refused", seen.sound, seen.refused);
+    assert!(seen.sound >= 500 && seen.refused >= 1000, "{} sound, {} refused", seen.sound, seen.refused);
     tally.at_least(10_000);
 }
 
@@ -256,23 +256,23 @@ fn each_clause_broken_alone() {
             compare(&mut tally, &mut random, &mut seen, words, name);
         }
     }
-    assert_eq!((seen.sound, seen.refused), (8 * 6, 8 * 21));
-    tally.at_least(8 * 27 * 5);
+    assert_eq!((seen.sound, seen.refused), (8 * 6, 8 * 23));
+    tally.at_least(8 * 29 * 5);
 }
 
 #[test]
 fn every_sum_changed_with_all_above_it() {
     let (mut tally, mut seen) = (Tally::new("named sessions with a sum wrong and all above it right"), Seen::default());
     let (mut random, mut changes) = (Random::new(191), Random::new(192));
-    // each sum is changed in one of the bases, the first two and the last two of each level in all
+    // each sum is changed in two of the bases, the first two and the last two of each level in all
     let mut damaged = 0;
-    for (turn, base) in damage::bases().iter().take(3).enumerate() {
+    for (turn, base) in damage::bases().iter().take(6).enumerate() {
         damaged += damage::sums_changed(&mut changes, base, 3, turn, |words| {
             compare(&mut tally, &mut random, &mut seen, words, 1);
         });
     }
     assert_eq!((seen.sound, seen.refused), (0, damaged));
-    tally.at_least(5 * SUMS.len() as u64);
+    tally.at_least(2 * 5 * (POINTS as u64 + 1));
 }
 
 #[test]

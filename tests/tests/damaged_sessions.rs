@@ -2,14 +2,14 @@
 
 use jemqolu_tests::calls;
 use jemqolu_tests::damage::{self, Seen};
-use jemqolu_tests::plain::session::{self, FIRSTS, SUMS, WORDS};
+use jemqolu_tests::plain::session::{self, COUNT, FIRSTS, POINTS, WORDS};
 use jemqolu_tests::plain::summary::MOST_WORDS;
 use jemqolu_tests::random::Random;
 use jemqolu_tests::tally::Tally;
 
 /// Sizes to try in turn: none, 1, the number of extents, one more, and the largest.
 fn size(words: &[u32], turn: u32) -> u32 {
-    let extents = words.get(SUMS.end - 1).copied().unwrap_or(0);
+    let extents = words.get(COUNT).copied().unwrap_or(0);
     [0, 1, extents, extents.wrapping_add(1), u32::MAX][turn as usize % 5]
 }
 
@@ -58,8 +58,8 @@ fn lengths_around_a_session() {
     for words in damage::bases().iter().flat_map(|base| damage::lengths(base)) {
         compare(&mut tally, &mut seen, &words, 7);
     }
-    assert_eq!((seen.sound, seen.refused), (60, 72));
-    tally.at_least(660);
+    assert_eq!((seen.sound, seen.refused), (60, 84));
+    tally.at_least(720);
 }
 
 #[test]
@@ -72,7 +72,7 @@ fn several_words_changed() {
         let extent = random.of(&[known, known, new]);
         compare(&mut tally, &mut seen, &words, extent);
     }
-    assert!(seen.sound >= 750 && seen.refused >= 1250, "{} sound, {} refused", seen.sound, seen.refused);
+    assert!(seen.sound >= 1000 && seen.refused >= 2000, "{} sound, {} refused", seen.sound, seen.refused);
     tally.at_least(4000 * 5);
 }
 
@@ -91,16 +91,16 @@ fn each_clause_broken_alone() {
 fn every_sum_changed_with_all_above_it() {
     let (mut tally, mut seen) = (Tally::new("sessions with one sum wrong and all above it right"), Seen::default());
     let mut random = Random::new(94);
-    // each sum is changed in one of the bases, the first two and the last two of each level in all
+    // each sum is changed in two of the bases, the first two and the last two of each level in all
     let mut damaged = 0;
     for (turn, base) in damage::bases().iter().take(6).enumerate() {
         let extent = base[FIRSTS.start];
-        damaged += damage::sums_changed(&mut random, base, 6, turn, |words| {
+        damaged += damage::sums_changed(&mut random, base, 3, turn, |words| {
             compare(&mut tally, &mut seen, words, extent);
         });
     }
     assert_eq!((seen.sound, seen.refused), (0, damaged));
-    tally.at_least(5 * SUMS.len() as u64);
+    tally.at_least(2 * 5 * (POINTS as u64 + 1));
 }
 
 #[test]
@@ -109,6 +109,6 @@ fn sums_that_agree_only_modulo_two_to_32() {
     for words in damage::sums_modulo() {
         compare(&mut tally, &mut seen, &words, 10);
     }
-    assert_eq!((seen.sound, seen.refused), (2, 7));
-    tally.at_least(45);
+    assert_eq!((seen.sound, seen.refused), (2, 9));
+    tally.at_least(55);
 }

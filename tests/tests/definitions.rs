@@ -2,13 +2,17 @@
 
 use jemqolu_tests::plain::moments::Moments;
 use jemqolu_tests::plain::names::{self, MAX_NAMES};
-use jemqolu_tests::plain::session::{Reading, SLOTS};
+use jemqolu_tests::plain::session::{Reading, COUNT, NEXT, RIGHTS, SLOT, SLOTS};
 use jemqolu_tests::plain::splits::{self, Customer};
 use jemqolu_tests::plain::trace::{self, Stack};
-use jemqolu_tests::plain::{cache, last_slots, logs, one_more, plans, session, split_tables, summary, MAX_EXTENTS};
+use jemqolu_tests::plain::MAX_EXTENTS;
+use jemqolu_tests::plain::{
+    cache, forms, full_session, last_slots, logs, one_more, plans, session, split_tables, summary,
+};
 use jemqolu_tests::random::Random;
 use jemqolu_tests::tally::Tally;
-use jemqolu_tests::{made, runs};
+use jemqolu_tests::{damage, made, runs};
+use std::iter;
 
 const THREE: [u32; 3] = [0, 4096, u32::MAX];
 
@@ -142,7 +146,7 @@ fn the_sums_on_the_way_up_are_the_marks_above() {
         let marks = session::marks(&words);
         for (place, slot) in marks.iter().enumerate() {
             let wanted = (marks.len() - place, last_slots::zeros(*slot));
-            tally.same(session::way_up(&words[session::SUMS], *slot), wanted, &(&marks, slot));
+            tally.same(session::way_up(&words[session::RIGHTS], *slot), wanted, &(&marks, slot));
         }
     }
     tally.at_least(1500);
@@ -193,6 +197,84 @@ fn a_session_answers_as_the_last_slots_do() {
         tally.same(last_slots::readings(&trace), answers, &trace);
     }
     tally.at_least(40);
+}
+
+#[test]
+fn right_hand_sums_are_the_sums_of_right_children() {
+    let mut tally = Tally::new("right-hand sums counted on the leaves and all sums");
+    let mut random = Random::new(21);
+    for round in 0..200 {
+        let leaves: Vec<u32> = (0..SLOTS).map(|_| random.below(2 + round % 3 * 1000) as u32).collect();
+        let all = full_session::sums_over(&leaves);
+        let mut words = session::new();
+        session::set_leaves(&mut words, &leaves);
+        tally.same(words[RIGHTS].to_vec(), all.iter().copied().skip(1).step_by(2).collect(), &leaves);
+        tally.same(words[COUNT], all[all.len() - 1], &leaves);
+        tally.same(session::leaves(&words), Some(leaves.clone()), &leaves);
+    }
+    tally.at_least(600);
+}
+
+#[test]
+fn a_session_answers_as_the_one_with_all_sums_does() {
+    let mut tally = Tally::new("sessions with right-hand sums alone and with all sums");
+    let mut random = Random::new(22);
+    for round in 0..36 {
+        let mut full = if round % 4 == 0 { full_session::new() } else { made::full_session(&mut random) };
+        let mut words = forms::right_hand(&full);
+        let known = words[session::FIRSTS].to_vec();
+        let new = made::trace(&mut random, 900, [4, 40, MAX_EXTENTS][round % 3]);
+        let old = made::trace_over(&mut random, &known, SLOTS);
+        for extent in [&new[..], &old, &[0, 0]].concat() {
+            let answer = full_session::read(&mut full, extent);
+            tally.same(session::read(&mut words, extent), answer, &extent);
+            tally.same(words == forms::right_hand(&full), true, &extent);
+        }
+        tally.same(session::summary(&words), full_session::summary(&full), &words);
+        for size in [0, 1, 20, u32::MAX] {
+            tally.same(session::misses(&words, size), full_session::misses(&full, size), &words);
+            tally.same(session::share(&words, size), full_session::share(&full, size), &words);
+        }
+    }
+    tally.at_least(36 * 2 * SLOTS as u64);
+}
+
+/// The sound sessions with all sums whose other form these words are, sought among all marks that the slots allow: in each
+/// slot that does not hold 0, and in none or one of those that do.
+fn sought(words: &[u32]) -> Vec<Vec<u32>> {
+    let leaves: Vec<u32> = words[SLOT].iter().map(|extent| u32::from(*extent != 0)).collect();
+    let with = |slot: Option<usize>| {
+        let mut leaves = leaves.clone();
+        slot.into_iter().for_each(|slot| leaves[slot] = 1);
+        leaves
+    };
+    let of_0 = (0..SLOTS).filter(|slot| leaves[*slot] == 0).map(Some);
+    let marks = iter::once(None).chain(of_0).map(with).filter(|leaves| leaves.iter().sum::<u32>() == words[COUNT]);
+    let sums = marks.map(|leaves| full_session::sums_over(&leaves));
+    let given = sums.filter(|sums| sums.iter().skip(1).step_by(2).eq(&words[RIGHTS]));
+    let all = given.map(|sums| [&words[..COUNT], &sums, &words[NEXT..]].concat());
+    all.filter(|full| full_session::sound(full)).collect()
+}
+
+#[test]
+fn a_session_is_sound_where_one_with_all_sums_has_its_words() {
+    let mut tally = Tally::new("sound sessions, and those with all sums");
+    let mut random = Random::new(23);
+    let mut list = [damage::bases(), damage::each_clause_broken(), damage::sums_modulo()].concat();
+    list.extend((0..300).map(|_| damage::several_words_changed(&mut random)));
+    for base in &damage::bases()[..4] {
+        damage::sums_changed(&mut random, base, 200, 0, |words| list.push(words.to_vec()));
+        damage::words_changed(&mut random, base, 400, 3, |words| list.push(words.to_vec()));
+    }
+    let mut sound = 0;
+    for words in &list {
+        let found = sought(words);
+        tally.same(found.len(), usize::from(session::sound(words)), words);
+        tally.same(forms::sound_full(words), found.first().cloned(), words);
+        sound += found.len();
+    }
+    assert!(sound >= 100 && list.len() - sound >= 400, "{sound} sound of {}", list.len());
+    tally.at_least(1000);
 }
 
 #[test]

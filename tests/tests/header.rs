@@ -1,7 +1,7 @@
 //! The header: its calls are those declared in `ffi`, and its limits and refusals those of the definitions.
 
 use jemqolu_tests::header::{number, HEADER};
-use jemqolu_tests::plain::session::{self, COUNTS, FIRSTS, NEXT, READS, SLOT, SLOTS, SUMS};
+use jemqolu_tests::plain::session::{self, COUNT, COUNTS, FIRSTS, NEXT, POINTS, READS, RIGHTS, SLOT, SLOTS};
 use jemqolu_tests::plain::{logs, names, plans, splits, summary, watch, COLD_BASE, MAX_EXTENTS, MAX_READS};
 use jemqolu_tests::refusal;
 
@@ -82,21 +82,34 @@ fn the_header_has_the_words_of_a_session() {
         let line = HEADER.lines().find_map(|line| line.strip_prefix(&format!(" *   {words} ")));
         assert!(line.is_some_and(|line| line.trim_start().starts_with(what)), "{words}: {what}");
     };
-    let [of_firsts, of_counts, of_slots, of_sums] =
-        [FIRSTS, COUNTS, SLOT, SUMS].map(|range| format!("words {}..{}", range.start, range.end - 1));
+    let [of_firsts, of_counts, of_slots, of_rights] =
+        [FIRSTS, COUNTS, SLOT, RIGHTS].map(|range| format!("words {}..{}", range.start, range.end - 1));
     has(&format!("word {READS}"), "L,");
     has(&of_firsts, "F,");
     has(&of_counts, &format!("H, word {} + d ", with_comma(COUNTS.start - 1)));
     has(&of_slots, &format!("{} slots:", with_comma(SLOTS)));
-    let leaves = with_comma(SLOTS);
-    has(
-        &of_sums,
-        &format!(
-            "{} sums: {leaves} leaves, 1 for a marked slot; the parent of p is {leaves} + p / 2;",
-            with_comma(SUMS.len())
-        ),
-    );
+    has(&format!("word {COUNT}"), "the count of all marks:");
+    let point = "one for each branching point of the binary tree over the slots:";
+    let first = with_comma(RIGHTS.start);
+    has(&of_rights, &format!("{} right-hand sums, {point} word {first} + p has", with_comma(POINTS)));
     has(&format!("word {NEXT}"), "the next slot");
+}
+
+#[test]
+fn the_header_numbers_the_branching_points() {
+    let bare = HEADER.lines().map(|line| line.trim_start_matches([' ', '*', '/']));
+    let text = bare.collect::<Vec<&str>>().join(" ");
+    let slots = with_comma(SLOTS);
+    for said in [
+        "has the marks under the right child of point p.",
+        "The lowest points come first, then each level above them, the root last:",
+        "the children of point p are 2p, the left one, and 2p + 1,",
+        &format!("a number below {slots} being that of a slot, {slots} + q that of point q"),
+        &format!("A new session. Lent: {} words.", with_comma(session::WORDS)),
+        &format!("Names of which none is set. Lent: {} words,", with_comma(names::WORDS)),
+    ] {
+        assert!(text.contains(said), "{said}");
+    }
 }
 
 #[test]

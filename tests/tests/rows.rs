@@ -3,7 +3,9 @@
 
 use jemqolu_tests::plain::logs::LISTING_BYTES;
 use jemqolu_tests::plain::plans::LEVEL_WORDS;
-use jemqolu_tests::plain::session::{Reading, COUNTS, DIGITS, FIRSTS, NEXT, READS, SLOT, SLOTS, SUMS, WORDS};
+use jemqolu_tests::plain::session::{
+    Reading, COUNT, COUNTS, DIGITS, FIRSTS, NEXT, POINTS, READS, RIGHTS, SLOT, SLOTS, WORDS,
+};
 use jemqolu_tests::plain::summary::MOST_WORDS;
 use jemqolu_tests::plain::{names, COLD_BASE, MAX_EXTENTS};
 use jemqolu_tests::random::Random;
@@ -32,10 +34,10 @@ fn reading(word: u32, sums_read: u32, slots_looked: u32) -> Answer<Reading> {
 
 #[test]
 fn the_numbers_of_the_requirements() {
-    assert_eq!((MAX_EXTENTS, SLOTS, SUMS.len(), DIGITS), (1024, 2048, 4095, 11));
-    assert_eq!([FIRSTS, COUNTS, SLOT, SUMS], [1..1025, 1025..2049, 2049..4097, 4097..8192]);
-    assert_eq!((READS, NEXT, WORDS), (0, 8192, 8193));
-    assert_eq!((names::NAME_WORDS, names::WORDS), (8194, 65_552));
+    assert_eq!((MAX_EXTENTS, SLOTS, POINTS, DIGITS), (1024, 2048, 2047, 11));
+    assert_eq!([FIRSTS, COUNTS, SLOT, RIGHTS], [1..1025, 1025..2049, 2049..4097, 4098..6145]);
+    assert_eq!((READS, COUNT, NEXT, WORDS), (0, 4097, 6145, 6146));
+    assert_eq!((names::NAME_WORDS, names::WORDS), (6147, 49_176));
     assert_eq!((MOST_WORDS, LEVEL_WORDS, LISTING_BYTES), (3074, 6148, 23_616));
 }
 
@@ -47,6 +49,21 @@ fn the_seven_reads() {
     assert_eq!(answers, [0, 1, 2, 3, 4, 5, 6].map(wanted));
     assert_eq!(calls::session_summary(&session, 11), Ok(SUMMARY.to_vec()));
     assert_eq!(calls::distances(&[0, 0], &SEVEN, 7), Ok(SEVEN_WORDS.to_vec()));
+}
+
+#[test]
+fn the_words_after_the_seven_reads() {
+    let (session, _) = read_all(&SEVEN);
+    let mut wanted = vec![0; 6146];
+    wanted[0] = 7;
+    wanted[1..4].copy_from_slice(&[7, 3, 9]);
+    wanted[1025..1028].copy_from_slice(&[1, 2, 1]);
+    // the marks stand in the slots 2, 5 and 6
+    (wanted[2049 + 2], wanted[2049 + 5], wanted[2049 + 6], wanted[4097]) = (7, 3, 9, 3);
+    // over the slots 4 and 5, 0 to 3, 4 to 7, and 0 to 7
+    (wanted[4098 + 2], wanted[4098 + 1024], wanted[4098 + 1025], wanted[4098 + 1536]) = (1, 1, 1, 2);
+    wanted[6145] = 7;
+    assert_eq!(session, wanted);
 }
 
 #[test]

@@ -1,6 +1,6 @@
 //! Misses and hit shares of sessions.
 
-use jemqolu_tests::plain::session::{self, FIRSTS, SLOT, SUMS, WORDS};
+use jemqolu_tests::plain::session::{self, COUNT, FIRSTS, SLOT, WORDS};
 use jemqolu_tests::plain::summary::MOST_WORDS;
 use jemqolu_tests::plain::{cache, hit_share, MAX_EXTENTS, MAX_READS};
 use jemqolu_tests::random::Random;
@@ -23,7 +23,7 @@ fn bits(share: Answer<Option<f64>>) -> Answer<Option<u64>> {
 /// Compares the misses and the share of a session at all sizes of interest, and with those of its summary.
 fn compare(tally: &mut Tally, words: &[u32]) {
     let summary = calls::session_summary(words, MOST_WORDS);
-    for size in sizes(words.get(SUMS.end - 1).copied().unwrap_or(0)) {
+    for size in sizes(words.get(COUNT).copied().unwrap_or(0)) {
         let (misses, share) = (session::misses(words, size), session::share(words, size));
         if let Ok(summary) = &summary {
             tally.same(calls::misses(summary, size), misses, &(summary, size));
@@ -47,7 +47,7 @@ fn the_caches_that_read_a_trace() {
         for extent in &trace {
             calls::session_read(&mut words, *extent).expect("a read within the limits");
         }
-        for size in sizes(words[SUMS.end - 1]) {
+        for size in sizes(words[COUNT]) {
             let misses = cache::misses(&trace, size);
             let share = hit_share(trace.len() as u64 - misses, cache::servable(&trace));
             tally.same(calls::session_misses(&words, size), Ok(misses), &(&trace, size));
@@ -98,7 +98,7 @@ fn sessions_that_are_not_sound() {
     for _ in 0..900 {
         let mut words = made::session(&mut random);
         let any = random.below(WORDS);
-        let place = random.of(&[0, FIRSTS.start, any, any, SUMS.end - 1, WORDS - 1]);
+        let place = random.of(&[0, FIRSTS.start, any, any, COUNT, WORDS - 1]);
         words[place] = words[place].wrapping_add(random.of(&[1, 2, u32::MAX, 1 << 31]));
         refused += u32::from(session::misses(&words, 1) == Err(refusal::STATE));
         compare(&mut tally, &words);

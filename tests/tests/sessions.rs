@@ -96,7 +96,7 @@ fn every_slot_of_the_tree() {
         let mut words = made::session_over(&mut random, &[5], 3, 0);
         words[session::SLOT][slot] = 5;
         let leaves: Vec<u32> = (0..SLOTS).map(|other| u32::from(other == slot)).collect();
-        words[session::SUMS].copy_from_slice(&session::sums_over(&leaves));
+        session::set_leaves(&mut words, &leaves);
         words[NEXT] = slot as u32 + 1;
         let next = if slot + 1 == SLOTS { 0 } else { slot };
         let wanted = Reading { word: 1, sums_read: zeros(next), slots_looked: 1 };
@@ -194,7 +194,7 @@ fn refusals_in_order() {
     let next = MAX_EXTENTS + 44;
     let mut session = |known: &[u32], reads: usize, damaged: bool| {
         let mut words = made::session_over(&mut random, known, reads - known.len(), next);
-        words[session::SUMS.end - 1] ^= u32::from(damaged);
+        words[session::COUNT] ^= u32::from(damaged);
         words
     };
     let most = MAX_READS as usize;

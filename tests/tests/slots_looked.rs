@@ -1,49 +1,16 @@
 //! The slots looked at: from the slot below next down to the extent's mark, or all of them for a cold read.
 
+use jemqolu_tests::long_logs::{self, KINDS, LONG, MOVES};
 use jemqolu_tests::plain::last_slots::{self, zeros};
-use jemqolu_tests::plain::session::{self, Reading, COUNTS, DIGITS, FIRSTS, NEXT, READS, SLOT, SLOTS, SUMS, WORDS};
+use jemqolu_tests::plain::session::{self, Reading, COUNT, COUNTS, DIGITS, FIRSTS, NEXT, READS, SLOT, SLOTS, WORDS};
 use jemqolu_tests::plain::{trace, COLD_BASE, MAX_EXTENTS, MAX_READS};
 use jemqolu_tests::random::Random;
 use jemqolu_tests::tally::Tally;
 use jemqolu_tests::{calls, ffi, made, refusal, spread, Answer};
 use std::sync::OnceLock;
 
-/// The kinds of long logs.
-const KINDS: usize = 10;
-/// The reads of each long log.
-const LONG: usize = 6 * SLOTS;
-/// The fewest moves of the marks in a long log: one in as many reads as there are slots, but for the first so many.
-const MOVES: usize = LONG / SLOTS - 1;
 /// What may stand in the places for the sums read and the slots looked at before a read.
 const PLACES: [[u32; 2]; 4] = [[77, 78], [0, 0], [u32::MAX, 1], [1, u32::MAX]];
-
-/// Which of all extents that a log may have a read of a long log is of. The kinds: one extent, 3, 40 or all of them at
-/// random, skewed, a scan of all or of all but one, a scan there and back, more and more extents, or in phases.
-fn place(random: &mut Random, kind: usize, read: usize) -> usize {
-    let there_and_back = 2 * (MAX_EXTENTS - 1);
-    match kind {
-        0 => 0,
-        1 => random.below(3),
-        2 => random.below(40),
-        3 => random.below(MAX_EXTENTS),
-        4 => made::skewed(random, MAX_EXTENTS),
-        5 => read % MAX_EXTENTS,
-        6 => read % (MAX_EXTENTS - 1),
-        7 => (read % there_and_back).min(there_and_back - read % there_and_back),
-        8 => random.below((1 + read * MAX_EXTENTS / (LONG - SLOTS)).min(MAX_EXTENTS)),
-        _ => (read / 700 * 31 + random.below(9)) % MAX_EXTENTS,
-    }
-}
-
-/// A long log of each kind.
-fn long_logs() -> Vec<Vec<u32>> {
-    let mut random = Random::new(181);
-    let log = |kind: usize| {
-        let extents = made::extents(&mut random, MAX_EXTENTS);
-        (0..LONG).map(|read| extents[place(&mut random, kind, read)]).collect()
-    };
-    (0..KINDS).map(log).collect()
-}
 
 /// A read's answer, and the next slot that it found after any move of the marks.
 struct Found {
@@ -85,7 +52,7 @@ fn run(reads: Vec<u32>) -> Run {
 /// The long logs, read once for all tests.
 fn long_runs() -> &'static [Run] {
     static RUNS: OnceLock<Vec<Run>> = OnceLock::new();
-    RUNS.get_or_init(|| long_logs().into_iter().map(run).collect())
+    RUNS.get_or_init(|| long_logs::all(&mut Random::new(181)).into_iter().map(run).collect())
 }
 
 /// Whether the marks moved before a read.
@@ -228,6 +195,11 @@ fn every_extent_straight_after_the_marks_moved() {
     tally.at_least(500);
 }
 
+/// The leaves of one mark.
+fn one_leaf(slot: usize) -> Vec<u32> {
+    (0..SLOTS).map(|other| u32::from(other == slot)).collect()
+}
+
 #[test]
 fn every_slot_below_the_next() {
     let mut tally = Tally::new("one mark in every slot below many nexts");
@@ -236,8 +208,8 @@ fn every_slot_below_the_next() {
         let (extent, another) = if slot % 2 == 0 { (0, 5) } else { (5, 0) };
         let mut words = session::new();
         (words[READS], words[FIRSTS.start], words[COUNTS.start]) = (4, extent, 3);
-        (words[SLOT.start + slot], words[SUMS.start + slot]) = (extent, 1);
-        session::resum(&mut words);
+        words[SLOT][slot] = extent;
+        session::set_leaves(&mut words, &one_leaf(slot));
         // the nexts next to the slot, the last ones, and one in so many between, others for each slot
         for next in spread::places_of(slot + 1..SLOTS + 1, SLOTS / 8, slot) {
             words[NEXT] = next as u32;
@@ -295,7 +267,7 @@ fn refusals_leave_both_places() {
     ] {
         for (next, places) in nexts.into_iter().flat_map(|next| PLACES.map(|places| (next, places))) {
             let mut words = made::session_over(&mut random, &known[..extents], reads - extents, next);
-            words[SUMS.end - 1] ^= u32::from(damaged);
+            words[COUNT] ^= u32::from(damaged);
             let before = words.clone();
             // a known extent is refused too, but for 9
             let read = if wanted == refusal::EXTENTS { vec![another] } else { vec![another, 1] };

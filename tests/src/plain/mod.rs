@@ -1,6 +1,8 @@
 //! The definitions as plain code: slow, short, and written from the requirements alone.
 
 pub mod cache;
+pub mod forms;
+pub mod full_session;
 pub mod last_slots;
 pub mod logs;
 pub mod moments;
