@@ -67,9 +67,9 @@ def with_all_sums(words):
 
 
 def marked_by(words, slot, number):
-    """The words with so many marks more in a slot: in the reads, in the count and in the sums over the slot."""
+    """The words with so many marks more in a slot, in the count and in the sums over it."""
     copied = words[:]
-    for place in (0, COUNT, *(RIGHT + point for point in points_over(slot))):
+    for place in (COUNT, *(RIGHT + point for point in points_over(slot))):
         copied[place] = (copied[place] + number) & MOST
     return copied
 
@@ -138,12 +138,11 @@ class ExtentZero(Refusing):
             self.assertEqual(told(session), (zeros(slot), 8 - slot))
             self.assertEqual(session.words[RIGHT:NEXT], right_sums([2, 5, 8]))
 
-    def test_one_mark_more(self):
-        # in a free slot below the next it is that of extent 0, anywhere else none that a session can have
+    def test_one_mark_more_in_a_slot_that_is_free(self):
         sound = made({7: 2, 3: 5}, 6)
-        for slot, number in itertools.product((*range(9), 1023, 1024, SLOTS - 2, SLOTS - 1), (1, 2, -1)):
-            words = marked_by(sound, slot, number)
-            if number == 1 and slot in (0, 1, 3, 4):
+        for slot in range(9):
+            words = changed(marked_by(sound, slot, 1), 0, 3)
+            if slot in (0, 1, 3, 4):
                 self.assertEqual(words, made({7: 2, 3: 5, 0: slot}, 6))
                 self.assertEqual(jemqolu.Session.resume(words).misses(0), 3)
             else:
@@ -182,6 +181,17 @@ class Damage(Unsound):
         for place in (*range(COUNT, NEXT, 11), NEXT - 3, NEXT - 2, NEXT - 1):
             for value in {0, words[place] ^ 1, words[place] ^ 1 << 31, MOST} - {words[place]}:
                 self.refused_by_all(changed(words, place, value))
+
+    def test_slots_with_other_numbers_than_a_mark_or_none(self):
+        words = session_of(LOG).words
+        for slot, number in itertools.product((0, 1, 2, 5, 6, 7, 1023, 1024, SLOTS - 1), (1, 2, -1, -2, 1 << 31)):
+            damaged = marked_by(words, slot, number)
+            self.refused_by_all(damaged)
+            # the count is that of the marks again
+            self.refused_by_all(marked_by(damaged, 2 if slot == 5 else 5, -number))
+            # as many reads more as marks; with one more in slot 0 or 1 they are those of extent 0
+            if slot > 1 or number != 1:
+                self.refused_by_all(changed(damaged, 0, (words[0] + number) & MOST))
 
     def test_the_sums_of_other_marks(self):
         words = session_of(LOG).words
