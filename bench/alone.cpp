@@ -23,6 +23,18 @@ static void session_reads(size_t extents, size_t reads) {
     for (uint32_t extent : trace_of(Kind::uniform, reads, extents, 1)) session_read(session, extent);
 }
 
+// Cold reads of extent 0 from one session: so many extents with it, and all slots but the last are taken.
+static void cold_reads_of_0(size_t extents, size_t reads) {
+    Words before = new_session(), session;
+    for (size_t i = 0; i < 2 * JEMQOLU_MAX_EXTENTS - 1; i++) {
+        session_read(before, static_cast<uint32_t>(4096 * (1 + i % (extents - 1))));
+    }
+    for (size_t i = 0; i < reads; i++) {
+        session = before;
+        session_read(session, 0);
+    }
+}
+
 static void joins(size_t extents, size_t count) {
     Words a = full_summary(trace_of(Kind::uniform, SUMMED, extents, 1), extents);
     Words b = full_summary(trace_of(Kind::uniform, SUMMED, extents, 2), extents);
@@ -50,6 +62,7 @@ void lone_work(const std::string &kind, size_t extents, size_t units) {
     if (kind == "one-more-skewed") return one_more_of_kind(Kind::skewed, extents, units);
     if (kind == "one-more-uniform") return one_more_of_kind(Kind::uniform, extents, units);
     if (kind == "session") return session_reads(extents, units);
+    if (kind == "session-extent-0") return cold_reads_of_0(extents, units);
     if (kind == "join") return joins(extents, units);
     if (kind == "split-8") return splits(extents, units);
     demand(false, "no such work: " + kind);

@@ -1,6 +1,6 @@
 // The library's calls on whole vectors. A refusal ends the program: none is expected here.
 #pragma once
-#include "../include/jemqolu.h"
+#include "jemqolu.h"
 #include "traces.hpp"
 #include <string>
 

@@ -5,6 +5,7 @@
 #include <map>
 
 static const size_t READS = 50000;
+static const size_t READS_AGAIN = 5000;
 static const uint32_t SLOTS = 2 * JEMQOLU_MAX_EXTENTS;
 
 // The reads before those that are timed, from a new session, and the timed ones.
@@ -82,6 +83,55 @@ static void row(const Case &one) {
                number(times[0].least / times[1].least), spread(times)});
 }
 
+// A log that takes all slots but the last: 255 extents other than 0 and 1, and a read of this extent in that slot, or none
+// where there is no such slot below the last.
+static Words log_around(uint32_t extent, size_t slot) {
+    const size_t others = 255, taken = SLOTS - 1;
+    Words log = extents_of(others, 1), more = trace_of(Kind::uniform, taken - others, others, 1);
+    log.insert(log.end(), more.begin(), more.end());
+    for (uint32_t &other : log) other += 4096;
+    if (slot < taken) {
+        log.insert(log.begin() + static_cast<ptrdiff_t>(slot), extent);
+        log.pop_back();
+    }
+    return log;
+}
+
+// The same read again and again, each from the session of the log, whose words are copied back first.
+static Contestant read_again(const std::string &name, const Words &log, uint32_t extent) {
+    return {name, [extent, before = session_of(log)](Words &out) {
+                Words session = before;
+                for (uint32_t &word : out) {
+                    session = before;
+                    word = session_read(session, extent).word;
+                }
+            }};
+}
+
+static void extent_0_row(const std::string &name, size_t slot) {
+    std::vector<Contestant> both;
+    for (uint32_t extent : {0, 1}) {
+        Words log = log_around(extent, slot);
+        compare_slots_looked({name, log, {extent}});
+        both.push_back(read_again("extent " + std::to_string(extent), log, extent));
+    }
+    std::vector<Time> times = timed("extent 0, " + name, READS_AGAIN, both);
+    double unit = 1e6 / static_cast<double>(READS_AGAIN);
+    print_row({name, number(times[0].least * unit), number(times[1].least * unit),
+               number(times[0].least / times[1].least), spread(times)});
+}
+
+static void extent_0_table() {
+    begin_table("One read of extent 0",
+                "Microseconds per read, beside a read of extent 1 with its mark in the same slot: 0 is also the word of a "
+                "slot without a mark. The session has 255 other extents, and all slots but the last are taken. Its words "
+                "are copied back before each read, which is timed; 5,000 reads.",
+                {"read", "extent 0, µs", "extent 1, µs", "extent 0 / extent 1", "spread: extent 0, extent 1"});
+    extent_0_row("mark in the slot below the next", SLOTS - 2);
+    extent_0_row("mark in slot 0", 0);
+    extent_0_row("cold", SLOTS);
+}
+
 void session_table() {
     begin_table("One read of a session",
                 "Microseconds per read, the test of soundness included, beside jemqolu_distances on the same reads; "
@@ -91,4 +141,5 @@ void session_table() {
     for (size_t extents : timed_extents()) {
         for (Kind kind : all_kinds()) row(from_new(kind, extents));
     }
+    extent_0_table();
 }

@@ -1,5 +1,5 @@
 #include "traces.hpp"
-#include "../include/jemqolu.h"
+#include "jemqolu.h"
 #include <algorithm>
 #include <random>
 

@@ -41,17 +41,17 @@ MAX_SEG = 1_048_576
 MAX_STORE = 1024
 MAX_CUSTOMERS = 8
 MAX_NAMES = 8
-# a session's slots, and its sums: a full binary tree over them
+# a session's slots, and its right-hand sums: one for each branching point of the binary tree over the slots
 SLOTS = 2 * MAX_EXTENTS
-SUMS = 2 * SLOTS - 1
+RIGHT_SUMS = SLOTS - 1
 SUMMARY_WORDS = 2 + 3 * MAX_EXTENTS
 # two summaries
 LEVEL_WORDS = 2 * SUMMARY_WORDS
 WORK_WORDS = LEVEL_WORDS * MAX_JOINS
 # the lines before the rows of all sizes, and these rows, of at most so many bytes
 LISTING_BYTES = 64 + 23 * MAX_EXTENTS
-# the reads, F, H, the slots, the sums and the next slot
-SESSION_WORDS = 1 + MAX_EXTENTS + MAX_EXTENTS + SLOTS + SUMS + 1
+# the reads, F, H, the slots, the count of all marks, the right-hand sums and the next slot
+SESSION_WORDS = 1 + MAX_EXTENTS + MAX_EXTENTS + SLOTS + 1 + RIGHT_SUMS + 1
 WATCH_WORDS = 4
 NAME_WORDS = 1 + SESSION_WORDS
 NAMES_WORDS = NAME_WORDS * MAX_NAMES

@@ -1,5 +1,5 @@
 #!/usr/bin/env python3
-"""Tests of the wrapper's lengths and of the types of its calls: they are those of the header for C.
+"""Tests of the wrapper's lengths, of a session's places and of the types of the calls: they are those of the header for C.
 
 Run python/build first.
 """
@@ -11,6 +11,7 @@ import unittest
 
 sys.dont_write_bytecode = True
 import jemqolu  # noqa: E402
+from test_slots_looked import COUNT, F, H, NEXT, RIGHT, SLOT  # noqa: E402
 
 
 def numbers_in(text):
@@ -32,6 +33,14 @@ class Header(unittest.TestCase):
         ours = {name: getattr(jemqolu, name) for name in defined if hasattr(jemqolu, name)}
         self.assertEqual(set(defined) - set(ours), {"STACK_BYTES"})
         self.assertEqual(ours, {name: defined[name] for name in ours})
+
+    def test_the_places_of_a_session_are_those_of_the_header(self):
+        layout = self.text[self.text.index("/* A session is") :]
+        said = re.findall(r"^ \*   words? (\d+)(?:\.\.(\d+))? ", layout[: layout.index("*/")], re.MULTILINE)
+        starts = [0, F, H, SLOT, COUNT, RIGHT, NEXT, jemqolu.SESSION_WORDS]
+        ours = [(start, after - 1) for start, after in zip(starts, starts[1:])]
+        self.assertEqual([(int(first), int(last or first)) for first, last in said], ours)
+        self.assertEqual(NEXT - RIGHT, jemqolu.RIGHT_SUMS)
 
     def test_the_meanings_have_the_numbers_of_the_header(self):
         refusals = r"^    JEMQOLU_REFUSED_\w+ = (\d+),? +/\*(.*?)\*/"

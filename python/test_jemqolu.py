@@ -3,7 +3,8 @@
 
 Run python/build first. What the calls answer is compared with an independent implementation in tests/. The answers of
 reads and what a watch takes of them are tested in test_answers.py, what a session tells beside them in
-test_slots_looked.py, its named moments in test_moments.py, what one more read can do in test_one_more.py.
+test_slots_looked.py, the sums that it keeps in test_right_hand.py, its named moments in test_moments.py, what one more
+read can do in test_one_more.py.
 """
 import ctypes
 import mmap

@@ -21,7 +21,10 @@ from test_jemqolu import LOG, MOST, Index, Refusing, session_of  # noqa: E402
 LAST = SLOTS - 1
 DIGITS = LAST.bit_length()
 # where the parts of a session begin in its words
-F, H, SLOT, SUMS, NEXT = 1, 1 + MAX_EXTENTS, 1 + 2 * MAX_EXTENTS, 1 + 2 * MAX_EXTENTS + SLOTS, SESSION_WORDS - 1
+F, H, SLOT, NEXT = 1, 1 + MAX_EXTENTS, 1 + 2 * MAX_EXTENTS, SESSION_WORDS - 1
+COUNT, RIGHT = SLOT + SLOTS, SLOT + SLOTS + 1
+# the root among the nodes of the tree: a number below SLOTS is a slot, SLOTS + p is branching point p
+ROOT = 2 * SLOTS - 2
 # of each read of LOG: the sums read and the slots looked at
 ROW = [(0, 0), (0, 1), (DIGITS, 2), (0, 3), (DIGITS - 1, 3), (DIGITS - 1, 1), (DIGITS - 2, 3)]
 
@@ -31,6 +34,11 @@ def zeros(slot):
     return DIGITS - bin(slot).count("1")
 
 
+def numbered_again(slots):
+    """The slots by extent after the marks move: from 0 on, in order."""
+    return {extent: place for place, extent in enumerate(sorted(slots, key=slots.get))}
+
+
 def account(log, marks=(), next_slot=0):
     """The sums read and the slots looked at of each read of a log, by the log alone: a counter, which is the next slot,
     and its value at each extent's last read; at SLOTS the extents are numbered again from 0, in order. The log goes on
@@ -38,7 +46,7 @@ def account(log, marks=(), next_slot=0):
     counts, slots = [], dict(marks)
     for extent in log:
         if next_slot == SLOTS:
-            slots = {known: place for place, known in enumerate(sorted(slots, key=slots.get))}
+            slots = numbered_again(slots)
             next_slot = len(slots)
         if extent in slots:
             counts.append((zeros(slots[extent]), next_slot - slots[extent]))
@@ -54,6 +62,16 @@ def told(session):
     return session.sums_read, session.slots_looked
 
 
+def points_over(slot):
+    """The branching points that have the slot under their right child."""
+    node = slot
+    while node != ROOT:
+        point = node // 2
+        if node == 2 * point + 1:
+            yield point
+        node = SLOTS + point
+
+
 def made(marks, next_slot, reads=None):
     """The words of a session with these marks, a dict of slots by extent, and this next slot; all of its reads that are
     not cold have distance 1."""
@@ -61,10 +79,10 @@ def made(marks, next_slot, reads=None):
     words[0] = len(marks) if reads is None else reads
     words[H] = words[0] - len(marks)
     for place, (extent, slot) in enumerate(marks.items()):
-        words[F + place], words[SLOT + slot], words[SUMS + slot] = extent, extent, 1
-    for place in range(2 * SLOTS - 2):
-        words[SUMS + SLOTS + place // 2] += words[SUMS + place]
-    words[NEXT] = next_slot
+        words[F + place] = words[SLOT + slot] = extent
+        for point in points_over(slot):
+            words[RIGHT + point] += 1
+    words[COUNT], words[NEXT] = len(marks), next_slot
     return words
 
 
@@ -78,8 +96,10 @@ def changed(words, place, value):
 def refused_reads():
     """The number of a refusal, words, and an extent whose read from them is refused so."""
     sound = made({7: 2, 3: 5}, 6)
-    for place, value in ((0, 3), (F, 4), (H, 1), (SLOT + 2, 3), (SLOT, 9), (SUMS + 2, 0), (SUMS, 1), (NEXT, 5)):
+    for place, value in ((0, 3), (F, 4), (H, 1), (SLOT + 2, 3), (SLOT, 9), (COUNT, 1), (COUNT, 3), (NEXT, 5)):
         yield 7, changed(sound, place, value), 7
+    # slot 5 is the right child of point 2, slot 1 that of point 0
+    yield from ((7, changed(sound, RIGHT + 2, 0), 7), (7, changed(sound, RIGHT, 1), 7))
     yield from ((7, changed(sound, NEXT, SLOTS + 1), 7), (7, changed(sound, NEXT, MOST), 8), (7, sound[:-1], 7))
     yield 7, array("I", [MOST]) * SESSION_WORDS, MOST
     full = {extent: extent + 200 for extent in range(MAX_EXTENTS)}
@@ -254,7 +274,7 @@ class Refusals(Telling):
             self.assertEqual(told(session), ROW[-1])
             self.assertEqual(session.words, words)
             numbers.append(number)
-        self.assertEqual([numbers.count(number) for number in (7, 8, 9)], [12, 12, 6])
+        self.assertEqual([numbers.count(number) for number in (7, 8, 9)], [14, 12, 6])
 
     def test_reads_go_on_after_refusals(self):
         log = [place % MAX_EXTENTS for place in range(SLOTS + 88)]
