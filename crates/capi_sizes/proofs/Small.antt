@@ -13,7 +13,9 @@ use Rattle.reuse.specs.Summary.{wellFormed, readsOf, firstOf, joinedFirst, summ
 use Rattle.summary_calls.specs.declared.Written.{Written}
 use Rattle.summary_calls.specs.Calls.{Wrote, wrote, traceCall, joinCall}
 use Rattle.after.specs.Calls.{afterCall}
-use Rattle.session.specs.Sessions.{sound}
+use Rattle.session_calls.specs.Sessions as full
+use Rattle.session_calls.specs.Summaries as full-calls
+use Rattle.session.specs.Sessions.{oldOf, sound}
 use Rattle.session_summary.specs.Summaries.{summaryCall}
 use Rattle.texts.specs.Lines.{Read, got, refused as faulty}
 use Rattle.texts.specs.Logs.{logOf}
@@ -133,8 +135,8 @@ module _ (buffer : List ℕ) (room : length buffer ≤ mostSigned) where
 
   -- the summary of a session in words
   pub small-summary : (w : List ℕ) → Small (summaryIn w buffer .answer)
-  unfolding summaryIn summaryCall
+  unfolding summaryIn summaryCall full-calls.summaryCall
   small-summary w =
       small-if wordsOf (leb sessionLength (length w)) _ _
-      (λ _. small-if wordsOf (sound (sessionIn w)) _ _ (λ _. small-wrote _) tt)
+      (λ _. small-if wordsOf (sound (sessionIn w)) _ _ (λ _. small-if wordsOf (full.sound (oldOf (sessionIn w))) _ _ (λ _. small-wrote _) tt) tt)
       tt

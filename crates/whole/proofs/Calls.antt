@@ -20,10 +20,11 @@ use Rattle.session.specs.declared.Session.{Session}
 use Rattle.session.specs.declared.Step.{Step}
 use Rattle.session_calls.specs.declared.Answer.{Answer}
 use Rattle.session_calls.specs.declared.Answer.the-variants.{Cold, Distance, Refused}
-use Rattle.session.specs.Sessions.{fresh}
+use Rattle.session.specs.Sessions.{oldOf, fresh}
 use Rattle.session.specs.Reads.{roomed, stepAt, refused as readRefused, readOf}
-use Rattle.session.proofs.Sound.{true-sound, kept-few}
-use Rattle.session_traces.proofs.Stands.{Stands, stands-known, known-extents, fresh-stands}
+use Rattle.session_calls.proofs.Sound.{kept-few}
+use Rattle.session_calls.proofs.Stands.{stands-known, known-extents}
+use Rattle.session_traces.proofs.Stands.{Stands, stands-facts, fresh-stands}
 use Rattle.session_traces.proofs.Read.{over, read-is, read-full, read-many, read-stands}
 use Rattle.whole.specs.Runs.{gives, refused, sessionAfter, answersOf, written, keep, accepted}
 use Rattle.whole.specs.Owed.{Seen, seenOf, readOwed, grown, owed}
@@ -31,10 +32,10 @@ use Rattle.whole.specs.Owed.{Seen, seenOf, readOwed, grown, owed}
 -- a log that a session stands for is within the limits
 pub stands-within : (s : Session) (t : List ℕ) → Stands s t → Within t
 stands-within s t g =
-    let h = stands-known s t g in
+    let h = stands-known (oldOf s) t (g .full-stands) in
     record {
-      reads = omega (arith, g .counted, true-sound s (g .wide) (g .is-sound) .short);
-      extents = omega (arith, known-extents s t h, kept-few s (h .kept));
+      reads = omega (arith, g .full-stands .counted, stands-facts s t g .sound .short);
+      extents = omega (arith, known-extents (oldOf s) t h, kept-few (oldOf s) (h .kept));
     }
 
 -- a test that is one number past the limit

@@ -12,5 +12,6 @@ pub mod Counts
 pub mod HitShares
 pub mod Splits
 pub mod Insertions
+mod RightHand
 pub mod Whole
 pub mod Table

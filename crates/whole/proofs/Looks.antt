@@ -47,7 +47,7 @@ after-snoc (y ∷ t) s x = after-snoc t (readOf s y .session) x
 -- what each read of a log looks at
 pub log-looks : (t u : List ℕ) (x : ℕ) → Within (t ++ (x ∷ u)) → Looked t x
 log-looks t u x w = record {
-  has-mark = ap (mem x) (stands .stacked) ∙ mem-stack x t;
+  has-mark = ap (mem x) (stands .full-stands .stacked) ∙ mem-stack x t;
   look = trace-look (sessionAfter fresh t) t stands x (within-reads t u x w) (within-extents t u x w);
   again = λ earlier e. rw e (last-read earlier (rw (e, append-assoc) at w));
 }

@@ -11,26 +11,28 @@ use Rattle.reuse.specs.Traces.{Within}
 use Rattle.session.specs.declared.Session.{Session}
 use Rattle.session.specs.declared.Step.{Step}
 use Rattle.session.specs.Sessions.{fresh}
-use Rattle.session.specs.Reads.{gathered, roomed, moved, entered, stepAt, readOf}
-use Rattle.session_traces.proofs.Stands.{Stands, fresh-stands}
+use Rattle.session_calls.specs.Reads as full
+use Rattle.session.specs.Reads.{gathered, roomed, stepAt, readOf}
+use Rattle.session.proofs.Corresponds.{Facts, new-old}
+use Rattle.session_traces.proofs.Stands.{Stands, stands-facts, fresh-stands}
 use Rattle.session_traces.proofs.Read.{read-taken, read-stands}
 use Rattle.whole.specs.Runs.{sessionAfter}
 use Rattle.whole.specs.Moves.{FirstMove}
-use Rattle.whole.proofs.Calls.{within-reads, within-extents}
+use Rattle.whole.proofs.Calls.{within-reads, within-extents, trace-stands}
 
 -- with a slot left the marks stay
-room-stays : (s : Session) → s .next < slotCount → roomed s ≡ s
-unfolding roomed
-room-stays s l = rw (ne-eqb (s .next) slotCount (λ e. omega arith))
+room-stays : (s : Session) → Facts s → s .next < slotCount → roomed s ≡ s
+unfolding roomed full.roomed
+room-stays s f l = rw (ne-eqb (s .next) slotCount (λ e. omega arith)) (new-old s f)
 
 -- with none left they move
 full-moves : (s : Session) → s .next ≡ slotCount → roomed s ≡ gathered s
-unfolding roomed
+unfolding roomed gathered full.roomed
 full-moves s e = rw (eq-eqb (s .next) slotCount e)
 
 -- an accepted read takes one slot
 step-next : (s : Session) (x : ℕ) (r : Reuse) → stepAt s x r .session .next ≡ suc (s .next)
-unfolding moved entered
+unfolding full.moved full.entered
 step-next s x (cold n) = refl
 step-next s x (at d) = refl
 
@@ -56,14 +58,14 @@ next-along (x ∷ u) s t g w e l =
     one-more =
         ap (λ (r : Step). r .session .next) (read-taken s t g x (within-reads t u x w) (within-extents t u x w))
         ∙ step-next (roomed s) x (depth (stack t) x)
-        ∙ ap (λ (r : Session). suc (r .next)) (room-stays s room)
+        ∙ ap (λ (r : Session). suc (r .next)) (room-stays s (stands-facts s t g) room)
         ∙ simp length-append (omega (arith, e))
 
 -- of every log within the limits
 pub first-move : (t : List ℕ) → Within t → FirstMove t
 first-move t w = record {
   next = taken;
-  stays = λ l. room-stays (sessionAfter fresh t) (omega (arith, taken (omega arith)));
+  stays = λ l. room-stays (sessionAfter fresh t) (stands-facts (sessionAfter fresh t) t (trace-stands t w)) (omega (arith, taken (omega arith)));
   moves = λ e. full-moves (sessionAfter fresh t) (taken (omega arith) ∙ e);
 }
   where

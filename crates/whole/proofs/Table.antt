@@ -24,12 +24,16 @@ use Rattle.summary_calls.specs.Calls.{wrote, joinCall, missesCall, shareOf, sha
 use Rattle.reuse_rows.specs.Rows.{blank}
 use Rattle.after.specs.Calls.{afterCall}
 use Rattle.session_sums.specs.Sums.{pairs, sumsOf, zeros, same}
-use Rattle.session_marks.specs.Marks.{marked, tidy, slotFrom, lookedBelow}
+use Rattle.session_marks.specs.Marks.{marked, tidy, slotFrom, lookedOf}
 use Rattle.session_soundness.specs.Soundness.{soundRows}
 use Rattle.session_calls.specs.declared.Answer.the-variants.{Cold, Distance}
-use Rattle.session.specs.Sessions.{fresh, marks, extents, stackOf, firstRow, sound}
-use Rattle.session_calls.specs.Reads.{sumsRead, slotsLooked}
-use Rattle.session.specs.Reads.{gathered, roomed, slotOf, lookedAt, moved, entered, taken, tooMany, readOf}
+use Rattle.session_calls.specs.Sessions as full
+use Rattle.session.specs.declared.Session.{Session}
+use Rattle.session.specs.Sessions.{fresh}
+use Rattle.session.proofs.Corresponds.{fresh-new}
+use Rattle.session_calls.specs.Reads.{gathered, roomed, slotOf, lookedAt, moved, entered, taken, tooMany, readOf, sumsRead, slotsLooked}
+use Rattle.whole.specs.RightHand.{fullAnswers, fullLooked}
+use Rattle.whole.proofs.RightHand.{corresponds, fresh-full}
 use Rattle.whole.specs.Runs.{answersOf, gives}
 use Rattle.moments.specs.Names.{placeLength, namesLength, isName, placeStart, lies, isSet}
 use Rattle.moments.proofs.Places.{names-lie}
@@ -102,13 +106,24 @@ room-for-one : lies namesLength 1 ≡ true
 unfolding isName
 room-for-one = names-lie namesLength (omega arith) 1 refl
 
--- the seven reads: what the session answers, and the slots that it looks at
+-- the seven reads: what the session with all sums answers, and the slots that it looks at
+seven-full : (fullAnswers full.fresh seven
+    ≡ Cold 1 0 ∷ Cold 2 1 ∷ Distance 2 11 2 ∷ Cold 3 3 ∷ Distance 3 10 3 ∷ Distance 1 10 1 ∷ Distance 2 9 3 ∷ [])
+    × (fullLooked full.fresh seven
+    ≡ [] ∷ (0 ∷ []) ∷ (1 ∷ 0 ∷ []) ∷ (2 ∷ 1 ∷ 0 ∷ []) ∷ (3 ∷ 2 ∷ 1 ∷ []) ∷ (4 ∷ []) ∷ (5 ∷ 4 ∷ 3 ∷ []) ∷ [])
+unfolding fullAnswers fullLooked lookedAt lookedOf readOf full.sound soundRows full.extents same blank full.marks sumsOf pairs tidy full.stackOf full.firstRow marked allIn distinct mem roomed gathered slotOf slotFrom taken tooMany depth moved entered zeros sum
+seven-full = (refl, refl)
+
+-- so the session does
 seven-run : (answersOf fresh seven
     ≡ Cold 1 0 ∷ Cold 2 1 ∷ Distance 2 11 2 ∷ Cold 3 3 ∷ Distance 3 10 3 ∷ Distance 1 10 1 ∷ Distance 2 9 3 ∷ [])
     × (lookedAlong fresh seven
     ≡ [] ∷ (0 ∷ []) ∷ (1 ∷ 0 ∷ []) ∷ (2 ∷ 1 ∷ 0 ∷ []) ∷ (3 ∷ 2 ∷ 1 ∷ []) ∷ (4 ∷ []) ∷ (5 ∷ 4 ∷ 3 ∷ []) ∷ [])
-unfolding answersOf lookedAlong lookedAt lookedBelow readOf sound soundRows extents same blank marks sumsOf pairs tidy stackOf firstRow marked allIn distinct mem roomed gathered slotOf slotFrom taken tooMany depth moved entered zeros sum
-seven-run = (refl, refl)
+seven-run =
+    let c = corresponds full.fresh fresh-full in (
+      ap (λ (s : Session). answersOf s seven) (sym fresh-new) ∙ c .answers seven ∙ seven-full .0,
+      ap (λ (s : Session). lookedAlong s seven) (sym fresh-new) ∙ c .looked seven ∙ seven-full .1,
+    )
 
 -- no name is set where no words are lent
 none-set : Unset []

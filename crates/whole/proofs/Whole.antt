@@ -41,6 +41,7 @@ use Rattle.whole.proofs.HitShares.{serves, hit-shares, any-hit-shares}
 use Rattle.whole.proofs.Splits.{splits}
 use Rattle.insertion_calls.proofs.Refusals.{refusals as insertion-refusals}
 use Rattle.whole.proofs.Insertions.{insertions, ends-reached}
+use Rattle.whole.proofs.RightHand.{right-hand}
 
 -- a cache of this size holds the extent, by what was seen
 abbrev held : ℕ → Seen → Bool
@@ -95,7 +96,7 @@ runs t w = record {
   hit-shares = hit-shares t w;
 }
 
--- demand 3, named moments, the numbers of newcomers after any words, what a watch in words takes, what a hit share may be, the split of one store, and one more read
+-- demand 3, named moments, the numbers of newcomers after any words, what a watch in words takes, what a hit share may be, the split of one store, one more read, and right-hand sums alone
 pub claim : Claim
 claim = record {
   calls = calls-owed;
@@ -121,4 +122,5 @@ claim = record {
   insertion-refusals = insertion-refusals;
   insertions = insertions;
   ends-reached = ends-reached;
+  right-hand = right-hand;
 }

@@ -45,6 +45,7 @@ use Rattle.whole.specs.HitShares.{Serves, HitShares, AnyHitShares}
 use Rattle.whole.specs.Splits.{Customers, Splits}
 use Rattle.insertion_calls.specs.Refusals.{Refusals as InsertionRefusals}
 use Rattle.whole.specs.Insertions.{Insertions, EndsReached}
+use Rattle.whole.specs.RightHand.{RightHand}
 use Rattle.whole.specs.Cuttings.{Cutting, cutParts, Follows, cutDistances, cutRoomy}
 
 -- an answer that is a distance of at most c
@@ -111,8 +112,8 @@ pub record Claim : Type 0 where
   pub reads-alone : (names reads : List ℕ) → ReadsAlone names reads
   -- new words for names have none set
   pub new-names : (names : List ℕ) → namesLength ≤ length names → Unset (newNames names .buffer)
-  -- the distance of an accepted read of a known extent is 1 plus the total of the sums on the way up from its slot, and the
-  -- sums read are how many these are: of every sound session
+  -- the distance of an accepted read of a known extent is 1 plus the total of the right-hand sums on the way up from its slot,
+  -- and the sums read are how many these are: of every sound session
   pub walks : Walks
   -- the slots that an accepted read looks at are those from the newest down to its extent's own mark, or all below next: of
   -- every sound session
@@ -137,3 +138,5 @@ pub record Claim : Type 0 where
   pub insertions : (t : List ℕ) (place x c : ℕ) → Insertions t place x c
   -- both ends of that range are reached
   pub ends-reached : (c : ℕ) → EndsReached c
+  -- the session that keeps right-hand sums alone and the one with all sums are one to one where they are sound, answer the same and lead to sessions that correspond
+  pub right-hand : RightHand

@@ -45,7 +45,7 @@ pub record HitShares (c : ℕ) (t : List ℕ) : Type 0 where
 pub record AnyHitShares : Type 0 where
   -- 'no reads' exactly where each read is cold
   pub words-none : (w : List ℕ) (c : ℕ) → wellFormed w ≡ true → NoneOf (servableOf w) (shareCall w c)
-  pub session-none : (s : Session) (c : ℕ) → sound s ≡ true → NoneOf (servableOf (sessionWords s)) (sessionShare s c)
+  pub session-none : (s : Session) (c : ℕ) → Wide s → sound s ≡ true → NoneOf (servableOf (sessionWords s)) (sessionShare s c)
   pub watch-none : (w : Watch) → soundOf w ≡ true → NoneOf (watchServable w) (watchShare w)
   -- else between 0 and 1
   pub words-between : (w : List ℕ) (c : ℕ) → Between (shareCall w c)

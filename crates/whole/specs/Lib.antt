@@ -13,5 +13,6 @@ pub mod Counts
 pub mod HitShares
 pub mod Splits
 pub mod Insertions
+pub mod RightHand
 pub mod Claim
 pub mod Table
