@@ -53,21 +53,21 @@ changing-start c R s h = record { d = levels; b = 0; s = s; place = slot-place s
 module _ (N : ℕ) (f : ℕ → ℕ) (T A : List ℕ) (p : ℕ) where
   -- one turn below the root: by a right child, and by a left one
   abbrev ChangeTurn : Type 0
-  ChangeTurn = (p % 2 ≡ 1 → Changing N f T (set A (p / 2) (f (getD A (p / 2) 0))) (N + p / 2)) × ((p % 2 ≡ 1 → ⊥) → Changing N f T A (N + p / 2))
+  ChangeTurn = ((p % 2 ≡ 0 → ⊥) → Changing N f T (set A (p / 2) (f (getD A (p / 2) 0))) (N + p / 2)) × (p % 2 ≡ 0 → Changing N f T A (N + p / 2))
 
   changing-any : (d b s : ℕ) → Place N p d b s → changed f (fromRight d b s) A ≡ T → p + 2 < N + N → ChangeTurn
   unfolding fromRight changed
   changing-any zero b s at left h = absurd (place-root N p b s at h)
   changing-any (suc d) b s at left h = (
-    λ e. let q : eqb (s % 2) 0 ≡ false = ne-eqb (s % 2) 0 (λ z. omega (arith, place-side N p d b s at)) in
+    λ e. let q : eqb (s % 2) 0 ≡ false = ne-eqb (s % 2) 0 (λ z. e (place-side N p d b s at ∙ z)) in
         record { d = d; b = b + 2 ^ d; s = s / 2; place = place-up N p d b s at; left = rw (place-point N p d b s at) (simp q at left) },
-    λ e. let q : eqb (s % 2) 0 ≡ true = eq-eqb (s % 2) 0 (omega (arith, place-side N p d b s at, e)) in
+    λ e. let q : eqb (s % 2) 0 ≡ true = eq-eqb (s % 2) 0 (sym (place-side N p d b s at) ∙ e) in
         record { d = d; b = b + 2 ^ d; s = s / 2; place = place-up N p d b s at; left = simp q at left },
   )
 
   -- one turn of the change
   pub changing-turn : Changing N f T A p → p + 2 < N + N
-      → (p % 2 ≡ 1 → Changing N f T (set A (p / 2) (f (getD A (p / 2) 0))) (N + p / 2)) × ((p % 2 ≡ 1 → ⊥) → Changing N f T A (N + p / 2))
+      → ((p % 2 ≡ 0 → ⊥) → Changing N f T (set A (p / 2) (f (getD A (p / 2) 0))) (N + p / 2)) × (p % 2 ≡ 0 → Changing N f T A (N + p / 2))
   changing-turn u h = changing-any (u .d) (u .b) (u .s) (u .place) (u .left) h
 
   -- at the root nothing is left

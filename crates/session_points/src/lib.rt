@@ -64,7 +64,7 @@ pub fn change(rights: &mut [u32; RIGHTS], s: usize, c: u32)
     }
     let mut node = s;
     while node < ROOT {
-        if node % 2 == 1 {
+        if node % 2 != 0 {
             rights[node / 2] = std::num::wrapping_add_u32(rights[node / 2], c);
         }
         node = SLOTS + node / 2;
