@@ -13,8 +13,7 @@ use Rattle.session_sums.specs.Sums.{sumsOf, filled, zeros, firstMarks}
 use Rattle.session_rights.specs.Rights.{rightsOf, marksFrom}
 use Rattle.session_rights.specs.Ways.{fromLeft}
 use Rattle.session_points.specs.declared.Walked.{Walked}
-use Rattle.session_points.specs.declared.Worked.{Worked}
-use Rattle.session_points.specs.Points.{walkedUp, changedBy, workedOut}
+use Rattle.session_points.specs.Points.{walkedUp, changedBy, Worked, workedOut}
 use Rattle.session_marks.specs.Marks.{marked, gatheredRow}
 use Rattle.session_calls.specs.declared.Answer.{Answer}
 use Rattle.session_calls.specs.declared.Answer.the-variants.{Cold, Distance}
@@ -105,9 +104,9 @@ module _ (s : Session) (p : Summed s) where
       ∙ same-walk (ap (λ (l : List ℕ). sum (map (λ p. getD l p 0) (fromLeft levels 0 k))) rights-is ∙ rights-behind levels k h ms (p .wide) few) (left-count levels k h)
 
   -- the marks worked out are the old session's
-  pub worked : workedOut (s .count) (s .rights) .marks ≡ full.marks (oldOf s)
-  worked =
-      ap (λ (w : Worked). w .marks) (worked-some (s .count) (s .rights) rights-wide)
+  pub worked : (row : List ℕ) → length row ≡ slotCount → workedOut (s .count) (s .rights) row .marks ≡ full.marks (oldOf s)
+  worked row v =
+      ap (λ (w : Worked). w .marks) (worked-some (s .count) (s .rights) row rights-wide v)
       ∙ ap (λ (n : ℕ). marksFrom levels n (s .rights)) count-is
       ∙ ap (marksFrom levels (full.extents (oldOf s))) rights-is
       ∙ unfold full.extents in marks-back levels ms (p .wide)

@@ -17,15 +17,15 @@ use session_calls::Answer;
 // One less, modulo 2^32.
 const ONE_LESS: u32 = 4294967295;
 
-// L, F and H, the slots with the count of their marks and the right-hand sums over them, and the next slot.
+// L, the count of the marks and the next slot; F and H, the slots, and the right-hand sums over their marks.
 pub struct Session {
     pub reads: u32,
+    pub count: u32,
+    pub next: u32,
     pub first: [u32; MAX_EXTENTS],
     pub hist: [u32; MAX_EXTENTS],
     pub slots: [u32; SLOTS],
-    pub count: u32,
     pub rights: [u32; RIGHTS],
-    pub next: u32,
 }
 
 // The session after a read, beside the answer.
@@ -74,8 +74,9 @@ impl Session {
         ensures { λ r. ⌜ r ≡ gathered self ⌝ }
     {
         let v = self.count;
-        let worked = session_points::work_out(v, &self.rights);
-        let slots = session_marks::gather(&self.slots, &worked.marks);
+        let mut marks = [0u32; SLOTS];
+        session_points::work_out(v, &self.rights, &mut marks);
+        let slots = session_marks::gather(&self.slots, &marks);
         let rights = session_points::front(v as usize);
         self.slots = slots;
         self.rights = rights;

@@ -2,27 +2,32 @@
 use Prim.Native.Nat.{ℕ, zero, suc, _+_, _-_, _*_, _^_, _≤_, _<_}
 use mathlib.Core.Path.{_≡_, refl, sym, ap, _∙_}
 use mathlib.Core.List.{List, [], _∷_}
-use mathlib.Core.Bool.{Bool, true, false, _&&_}
+use mathlib.Core.Bool.{Bool, true, false, _&&_, and-false}
 use native.Mathlib.Omega.{arith}
-use lib.ListN.{length, take, drop, set, replicate, length-append, length-drop, length-set, length-replicate}
+use lib.ListN.{length, take, drop, set, length-append, length-drop, length-set}
 use lib.Seq.{take-at, take-all, length-take-le}
 use borrow.Author.Tests.{eq-eqb, ne-eqb}
 use Rattle.reuse.specs.Limits.{slotCount, rightCount, levels}
 use Rattle.session_rights.specs.Rights.{children, marksFrom, noneAbove, inTotals}
-use Rattle.session_points.specs.Points.{workedOut, Level}
+use Rattle.session_points.specs.Points.{Worked, workedOut, Level}
 use Rattle.session_rights.proofs.Levels.{power-pos, length-children}
 use Rattle.session_rights.proofs.Totals.{level-down, test-down}
 use Rattle.session_points.proofs.Spreads.{spreadTo}
 
--- a row of another length
-pub worked-other : (count : ℕ) (R : List ℕ) → (length R ≡ rightCount → ⊥) → workedOut count R ≡ record { within = false; marks = replicate slotCount 0 }
+-- right-hand sums of another length
+pub worked-other : (count : ℕ) (R A : List ℕ) → (length R ≡ rightCount → ⊥) → workedOut count R A ≡ record { within = false; marks = A }
 unfolding workedOut
-worked-other count R n = rw (ne-eqb (length R) rightCount n)
+worked-other count R A n = rw (ne-eqb (length R) rightCount n)
 
--- a session's right-hand sums
-pub worked-some : (count : ℕ) (R : List ℕ) → length R ≡ rightCount → workedOut count R ≡ record { within = inTotals levels count R; marks = marksFrom levels count R }
+-- a row of another length
+pub worked-short : (count : ℕ) (R A : List ℕ) → (length A ≡ slotCount → ⊥) → workedOut count R A ≡ record { within = false; marks = A }
 unfolding workedOut
-worked-some count R w = rw (eq-eqb (length R) rightCount w)
+worked-short count R A n = simp (ne-eqb (length A) slotCount n, and-false)
+
+-- a session's right-hand sums over a row of its slots
+pub worked-some : (count : ℕ) (R A : List ℕ) → length R ≡ rightCount → length A ≡ slotCount → workedOut count R A ≡ record { within = inTotals levels count R; marks = marksFrom levels count R }
+unfolding workedOut
+worked-some count R A w v = rw (eq-eqb (length R) rightCount w, eq-eqb (length A) slotCount v)
 
 -- a power of two below another is at most its half
 power-less : (d e : ℕ) → 2 ^ d < 2 ^ e → 2 ^ suc d ≤ 2 ^ e
@@ -48,21 +53,21 @@ pub record Down (count : ℕ) (R A : List ℕ) (flag : Bool) (m : ℕ) : Type 0 
   pub tested : flag ≡ inTotals d count (drop (slotCount - m) R)
 
 -- the root's total is the count
-pub down-start : (count : ℕ) (R : List ℕ) → length R ≡ rightCount → Down count R (set (replicate slotCount 0) 0 count) true 1
+pub down-start : (count : ℕ) (R A : List ℕ) → length R ≡ rightCount → length A ≡ slotCount → Down count R (set A 0 count) true 1
 unfolding marksFrom inTotals
-down-start count R w = record {
+down-start count R A w v = record {
   d = 0;
   size = refl;
   most = omega arith;
-  wide = length-set (replicate slotCount 0) 0 count ∙ length-replicate {A = ℕ} slotCount 0;
+  wide = length-set A 0 count ∙ v;
   long = w;
-  totals = front slotCount (omega arith);
+  totals = front A (omega arith);
   tested = refl;
 }
   where
-    front : (n : ℕ) → 0 < n → take 1 (set (replicate n 0) 0 count) ≡ count ∷ []
-    front zero h = absurd (omega arith)
-    front (suc n) h = refl
+    front : (l : List ℕ) → 0 < length l → take 1 (set l 0 count) ≡ count ∷ []
+    front [] h = absurd (omega arith)
+    front (a ∷ l) h = refl
 
 module _ (count : ℕ) (R A : List ℕ) (flag : Bool) (m : ℕ) (b : Down count R A flag m) where
   -- there is at least one
@@ -141,11 +146,12 @@ module _ (count : ℕ) (R A : List ℕ) (flag : Bool) (m : ℕ) (b : Down count 
             ∙ sym (test-down (b .d) p count R)
 
   -- the lowest level is that of the slots
-  pub down-end : slotCount ≤ m → record { within = flag; marks = A } ≡ workedOut count R
-  down-end h =
+  pub down-end : slotCount ≤ m → (E : List ℕ) → length E ≡ slotCount → (flag ≡ workedOut count R E .within) × (A ≡ workedOut count R E .marks)
+  down-end h E v =
       let all : m ≡ slotCount = omega (arith, b .most) in
       let none : slotCount - m ≡ 0 = omega arith in
       let deep : b .d ≡ levels = power-same (b .d) levels (omega (arith, b .size)) in
-      let marks : A ≡ marksFrom levels count R = sym (take-all m A (omega (arith, b .wide))) ∙ b .totals ∙ rw (none, deep) in
-      let test : flag ≡ inTotals levels count R = b .tested ∙ rw (none, deep) in
-      sym (worked-some count R (b .long) ∙ rw (marks, test))
+      let is = worked-some count R E (b .long) v in (
+        b .tested ∙ rw (none, deep) (ap (λ (w : Worked). w .within) (sym is)),
+        sym (take-all m A (omega (arith, b .wide))) ∙ b .totals ∙ rw (none, deep) (ap (λ (w : Worked). w .marks) (sym is)),
+      )

@@ -4,13 +4,12 @@ use mathlib.Core.Path.{_≡_}
 use mathlib.Core.List.{List, map}
 use mathlib.Core.Bool.{Bool, false, cond, _&&_}
 use lib.Dec.{eqb, ltb}
-use lib.ListN.{length, getD, replicate}
+use lib.ListN.{length, getD}
 use Rattle.reuse.specs.Lists.{sum}
 use Rattle.reuse.specs.Limits.{slotCount, rightCount, levels}
 use Rattle.session_rights.specs.Rights.{marksFrom, inTotals}
 use Rattle.session_rights.specs.Ways.{fromLeft, fromRight, changed, totalAt}
 use Rattle.session_points.specs.declared.Walked.{Walked}
-use Rattle.session_points.specs.declared.Worked.{Worked}
 
 -- as many words as a session has right-hand sums, and a slot
 unfoldable pub ofSlot : List ℕ → ℕ → Bool
@@ -32,13 +31,17 @@ changedBy c rights s = cond (ltb s slotCount) (changed (λ n. (n + c) % 2 ^ 32) 
 unfoldable pub markAt : ℕ → List ℕ → ℕ → ℕ
 markAt count rights s = cond (ofSlot rights s) (totalAt levels 0 count rights s) 0
 
--- whether no right-hand sum is above its point's total, and the marks worked out from the root down; no marks in a row of
--- another length
-unfoldable pub workedOut : ℕ → List ℕ → Worked
-workedOut count rights =
-    cond (eqb (length rights) rightCount)
+-- what is worked out: whether no right-hand sum is above its point's total, and the row with the marks
+pub record Worked : Type 0 where
+  pub within : Bool
+  pub marks : List ℕ
+
+-- the marks worked out from the root down, over a row; rows of other lengths are left
+unfoldable pub workedOut : ℕ → List ℕ → List ℕ → Worked
+workedOut count rights row =
+    cond (eqb (length rights) rightCount && eqb (length row) slotCount)
     (record { within = inTotals levels count rights; marks = marksFrom levels count rights })
-    (record { within = false; marks = replicate slotCount 0 })
+    (record { within = false; marks = row })
 
 -- a level of m totals at the front of the slots, and as many right-hand sums
 pub record Level (marks : List ℕ) (m : ℕ) (rights : List ℕ) : Type 0 where

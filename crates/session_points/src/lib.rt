@@ -21,12 +21,6 @@ pub struct Walked {
     pub count: u32,
 }
 
-// Whether no right-hand sum is above its point's total, and the marks worked out.
-pub struct Worked {
-    pub within: bool,
-    pub marks: [u32; SLOTS],
-}
-
 // The total of the right-hand sums wherever the way up from slot s leaves a left child, and how many were read; nothing
 // where the row is not as long as a session's right-hand sums, or s is no slot.
 pub fn above(rights: &[u32], s: usize) -> Walked
@@ -124,7 +118,7 @@ pub fn mark_at(count: u32, rights: &[u32], s: usize) -> u32
 
 // One level down: the first m words become the totals of their 2m children, and the answer is whether no right-hand sum is
 // above its point's total.
-fn spread(marks: &mut [u32; SLOTS], m: usize, rights: &[u32]) -> bool
+fn spread(marks: &mut [u32], m: usize, rights: &[u32]) -> bool
     requires { ⌜ Level (now marks) m (now rights) ⌝ }
     ensures { λ r. ⌜ (r ≡ noneAbove (now (rights .entry)) (take m (now (marks .entry)))) × (now (marks .exit) ≡ children (take m (now (marks .entry))) (now (rights .entry)) ++ drop (m + m) (now (marks .entry))) ⌝ }
 {
@@ -144,26 +138,26 @@ fn spread(marks: &mut [u32; SLOTS], m: usize, rights: &[u32]) -> bool
 }
 
 // The marks of all slots, worked out level by level from the root down: the left child has its point's total less the
-// right-hand sum, the right child that sum.
-pub fn work_out(count: u32, rights: &[u32]) -> Worked
-    ensures { λ r. ⌜ r ≡ workedOut count (now (rights .entry)) ⌝ }
+// right-hand sum, the right child that sum. The answer is whether no right-hand sum is above its point's total. Nothing is
+// written where a row has another length than a session's.
+pub fn work_out(count: u32, rights: &[u32], marks: &mut [u32]) -> bool
+    ensures { λ r. ⌜ (r ≡ workedOut count (now (rights .entry)) (now (marks .entry)) .within) × (now (marks .exit) ≡ workedOut count (now (rights .entry)) (now (marks .entry)) .marks) ⌝ }
 {
-    let mut marks = [0u32; SLOTS];
     if rights.len() != RIGHTS {
-        return Worked {
-            within: false,
-            marks,
-        };
+        return false;
+    }
+    if marks.len() != SLOTS {
+        return false;
     }
     marks[0] = count;
     let mut within = true;
     let mut m: usize = 1;
     while m < SLOTS {
-        let good = spread(&mut marks, m, &rights[SLOTS - 2 * m..SLOTS - m]);
+        let good = spread(marks, m, &rights[SLOTS - 2 * m..SLOTS - m]);
         if !good {
             within = false;
         }
         m = 2 * m;
     }
-    Worked { within, marks }
+    within
 }

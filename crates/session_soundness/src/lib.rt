@@ -111,9 +111,9 @@ pub fn intact<'a>(
     if rights.len() != RIGHTS {
         return false;
     }
-    let worked = session_points::work_out(count, rights);
-    if !worked.within {
+    let mut marks = [0u32; SLOTS];
+    if !session_points::work_out(count, rights, &mut marks) {
         return false;
     }
-    rows_hold(first, hist, slots, &worked.marks, count, next, reads)
+    rows_hold(first, hist, slots, &marks, count, next, reads)
 }

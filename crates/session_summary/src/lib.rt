@@ -18,8 +18,9 @@ pub fn summary(s: Session, out: &mut [u32]) -> Written
     }
     let count = s.count;
     let v = count as usize;
-    let worked = session_points::work_out(count, &s.rights);
-    let marked = session_marks::gather(&s.slots, &worked.marks);
+    let mut marks = [0u32; reuse::SLOTS];
+    session_points::work_out(count, &s.rights, &mut marks);
+    let marked = session_marks::gather(&s.slots, &marks);
     let recent = reuse_copies::turned(&marked[..v]);
     let first = s.first;
     let counts = s.hist;

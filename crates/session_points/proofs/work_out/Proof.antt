@@ -1,15 +1,19 @@
 -- `session_points::work_out` meets its contract. The invariant is `Down`: the first m words are the totals of a level.
 use mathlib.Core.Path.{sym, ap, _∙_}
-use mathlib.Core.Logic.{⊎-elim}
 use mathlib.Core.Bool.{Bool, _&&_, and-true, and-false}
+use mathlib.Core.Logic.{⊎-elim}
 use borrow.Author.Tests.{not-true, not-false}
 use Prim.Native.Nat.{_+_, _-_, _≤_}
 use native.Mathlib.Omega.{arith}
 use Rattle.reuse.specs.Limits.{slotCount}
-use Rattle.session_points.proofs.Downs.{worked-other, Down, down-start, down-some, down-room, down-part, down-level, down-turn, down-end}
+use Rattle.session_points.specs.Points.{Worked}
+use Rattle.session_points.proofs.Downs.{worked-other, worked-short, Down, down-start, down-some, down-room, down-part, down-level, down-turn, down-end}
 use borrow.Author.Needs.{needs}
 use Rattle.session_points.proofs.work_out.Statement.{statement}
 use Rattle.session_points.proofs.work_out.Tie as tie
+use Rattle.session_points.proofs.work_out.Reads as reads
+use Rattle.session_points.proofs.work_out.Lts as lts
+use Rattle.session_points.proofs.spread.Reads as spread-reads
 
 abbrev Inv-loop : tie.InvT-loop
 Inv-loop count rights marks₀ within₀ m₀ marks within m = Down count rights marks within m
@@ -26,13 +30,16 @@ some : (c : tie.In-loop Inv-loop μ-loop) → 1 ≤ c .before .loop .m
 some c = down-some _ _ _ _ _ (c .before .loop .inv)
 
 returns : tie.Need-returns Inv-loop μ-loop
-returns c = sym (worked-other _ _ (c .if1 .taken))
+returns c = let e = worked-other _ _ _ (c .if1 .taken) in (sym (ap (λ (w : Worked). w .within) e), sym (ap (λ (w : Worked). w .marks) e))
 
-array-write-marks : tie.Need-array-write-marks Inv-loop μ-loop
-array-write-marks c = omega arith
+returns-2 : tie.Need-returns-2 Inv-loop μ-loop
+returns-2 c = let e = worked-short _ _ _ (c .if2 .taken) in (sym (ap (λ (w : Worked). w .within) e), sym (ap (λ (w : Worked). w .marks) e))
+
+slice-write-marks : tie.Need-slice-write-marks Inv-loop μ-loop
+slice-write-marks c = omega (arith, c .if2 .left)
 
 loop-holds : tie.Need-loop-holds Inv-loop μ-loop
-loop-holds c = down-start _ _ (c .if1 .left)
+loop-holds c = down-start _ _ (c .before .before .before .before .args .marks .now) (c .before .if1 .left) (c .if2 .left)
 
 mul-spread : tie.Need-mul-spread Inv-loop μ-loop
 mul-spread c = omega (arith, room (c .before))
@@ -59,23 +66,26 @@ spread-requires : tie.Need-spread-requires Inv-loop μ-loop
 spread-requires c κs = let l = c .before .before .before .loop in down-level _ _ _ _ _ (l .inv) (omega arith) _ (down-part _ _ _ _ _ (l .inv) (omega arith))
 
 mul-m : tie.Need-mul-m Inv-loop μ-loop
-mul-m c = omega (arith, room (c .before .before .before .before))
+mul-m c = omega (arith, room (c .before .before .before .before .before .before))
 
 loop-less : tie.Need-loop-less Inv-loop μ-loop
-loop-less c = omega (arith, room (c .before .before .before .before), some (c .before .before .before .before))
+loop-less c = omega (arith, room (c .before .before .before .before .before .before), some (c .before .before .before .before .before .before))
 
 loop-again : tie.Need-loop-again Inv-loop μ-loop
 loop-again c =
-    let l = c .before .before .before .before .before .loop in
-    let p = c .before .spread in
+    let l = c .before .before .before .before .before .before .before .loop in
+    let p = c .before .before .before .spread in
     down-turn _ _ _ _ _ (l .inv) (omega arith) _ _ (p .result) _ (down-part _ _ _ _ _ (l .inv) (omega arith)) (p .ensures .0) (p .ensures .1)
     (⊎-elim
     (λ w. w .1 ∙ sym (ap (λ (t : Bool). l .within && t) (not-true _ (w .0 .taken)) ∙ and-false (l .within)))
     (λ w. w .1 ∙ sym (ap (λ (t : Bool). l .within && t) (not-false _ (w .0 .left)) ∙ and-true (l .within)))
-    (c .if2 .came))
+    (c .if3 .came))
 
-returns-2 : tie.Need-returns-2 Inv-loop μ-loop
-returns-2 c = down-end _ _ _ _ _ (c .before .loop .inv) (omega arith)
+same-length : tie.Need-same-length Inv-loop μ-loop
+same-length c = c .before .loop .inv .wide ∙ sym (c .before .before .if2 .left)
+
+returns-3 : tie.Need-returns-3 Inv-loop μ-loop
+returns-3 c = down-end _ _ _ _ _ (c .before .loop .inv) (omega arith) (c .before .before .before .before .before .before .args .marks .now) (c .before .before .if2 .left)
 
 pub work-out-spec : {M : Type 1} → statement M
 work-out-spec =
@@ -84,7 +94,8 @@ work-out-spec =
     Inv-loop
     μ-loop
     returns
-    array-write-marks
+    returns-2
+    slice-write-marks
     loop-holds
     mul-spread
     sub-spread
@@ -97,4 +108,5 @@ work-out-spec =
     mul-m
     loop-less
     loop-again
-    returns-2)
+    same-length
+    returns-3)

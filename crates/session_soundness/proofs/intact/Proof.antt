@@ -6,8 +6,9 @@ use native.Mathlib.Omega.{arith}
 use borrow.Author.Tests.{eq-eqb, ne-eqb, not-true, not-false}
 use Rattle.reuse.specs.Lists.{sum}
 use Rattle.reuse.specs.Limits.{maxExtents, slotCount, rightCount, levels}
+use lib.ListN.{length-replicate}
 use Rattle.session_rights.specs.Rights.{marksFrom, inTotals}
-use Rattle.session_points.specs.declared.Worked.{Worked}
+use Rattle.session_points.specs.Points.{Worked}
 use Rattle.session_soundness.specs.Soundness.{soundRows, intactRows}
 use Rattle.session_rights.proofs.Rights.{worked-out}
 use Rattle.session_points.proofs.Downs.{worked-some}
@@ -26,11 +27,11 @@ kept c = record { first-wide = c .before .before .before .if1 .left; hist-wide =
 
 -- what was worked out
 told : (c : tie.After-work-out)
-    → let a = start (c .before) .args in
-    (c .work-out .result .within ≡ inTotals levels (a .count) (a .rights .now)) × (c .work-out .result .marks ≡ marksFrom levels (a .count) (a .rights .now))
+    → let a = start (c .before .before) .args in
+    (c .work-out .result ≡ inTotals levels (a .count) (a .rights .now)) × (c .work-out .last .1 .1 .0 ≡ marksFrom levels (a .count) (a .rights .now))
 told c =
-    let e = c .work-out .ensures ∙ worked-some _ _ (kept (c .before) .rights-wide) in
-    (ap (λ (w : Worked). w .within) e, ap (λ (w : Worked). w .marks) e)
+    let e = worked-some _ _ _ (kept (c .before .before) .rights-wide) (length-replicate {A = ℕ} slotCount 0) in
+    (c .work-out .ensures .0 ∙ ap (λ (w : Worked). w .within) e, c .work-out .ensures .1 ∙ ap (λ (w : Worked). w .marks) e)
 
 returns : tie.Need-returns
 unfolding intactRows
@@ -48,27 +49,33 @@ returns-4 : tie.Need-returns-4
 unfolding intactRows
 returns-4 c = sym (simp (eq-eqb _ maxExtents (c .before .before .before .if1 .left), eq-eqb _ maxExtents (c .before .before .if2 .left), eq-eqb _ slotCount (c .before .if3 .left), ne-eqb _ rightCount (c .if4 .taken)))
 
+slice-aggregate-work-out : tie.Need-slice-aggregate-work-out
+slice-aggregate-work-out c = search needs
+
 work-out-requires : tie.Need-work-out-requires
 work-out-requires c κs = search needs
 
 returns-5 : tie.Need-returns-5
-returns-5 c = sym (intact-above _ _ _ _ _ (kept (c .before .before)) _ _ (sym (told (c .before) .0) ∙ not-true _ (c .if5 .taken)))
+returns-5 c = sym (intact-above _ _ _ _ _ (kept (c .before .before .before .before)) _ _ (sym (told (c .before .before) .0) ∙ not-true _ (c .if5 .taken)))
+
+slice-aggregate-rows-hold : tie.Need-slice-aggregate-rows-hold
+slice-aggregate-rows-hold c = search needs
 
 rows-hold-requires : tie.Need-rows-hold-requires
 rows-hold-requires c κs =
-    let w = c .before .before .before .before in
-    let k = kept (w .before) in
-    let n = sym (told w .0) ∙ not-false _ (c .before .before .before .if5 .left) in
+    let w = c .before .before .before in
+    let k = kept (w .before .before) in
+    let n = sym (told w .0) ∙ not-false _ (c .before .if5 .left) in
     (rw (told w .1) (kept-wide _ _ _ _ _ k), ap sum (told w .1) ∙ worked-out levels _ _ (omega (arith, k .rights-wide)) n .counted)
 
 returns-6 : tie.Need-returns-6
 returns-6 c =
-    let w = c .before .before .before .before .before in
-    let a = start (w .before) .args in
-    let n = sym (told w .0) ∙ not-false _ (c .before .before .before .before .if5 .left) in
+    let w = c .before .before .before .before in
+    let a = start (w .before .before) .args in
+    let n = sym (told w .0) ∙ not-false _ (c .before .before .if5 .left) in
     c .rows-hold .ensures
     ∙ ap (λ (l : List ℕ). soundRows (a .reads) (a .first .now) (a .hist .now) (a .slots .now) l (a .next)) (told w .1)
-    ∙ sym (intact-within _ _ _ _ _ (kept (w .before)) _ _ n)
+    ∙ sym (intact-within _ _ _ _ _ (kept (w .before .before)) _ _ n)
 
 pub intact-spec : {M : Type 1} → statement M
 intact-spec =
@@ -78,7 +85,9 @@ intact-spec =
     returns-2
     returns-3
     returns-4
+    slice-aggregate-work-out
     work-out-requires
     returns-5
+    slice-aggregate-rows-hold
     rows-hold-requires
     returns-6)

@@ -1,14 +1,13 @@
 -- `session_summary::summary` meets its contract. A session that is not sound is refused; the words of the others are written.
 use mathlib.Core.Path.{_≡_, sym, ap, _∙_}
 use mathlib.Core.Bool.{true}
-use Prim.Native.Nat.{_≤_}
+use Prim.Native.Nat.{ℕ, _≤_}
 use native.Mathlib.Omega.{arith}
-use lib.ListN.{length}
+use lib.ListN.{length, length-replicate}
 use lib.Seq.{length-take-le}
 use borrow.Author.Tests.{not-true, not-false}
 use Rattle.reuse.specs.Limits.{maxExtents, slotCount}
 use Rattle.summary_calls.specs.Calls.{Wrote}
-use Rattle.session_points.specs.declared.Worked.{Worked}
 use Rattle.session_marks.specs.Marks.{gatheredRow}
 use Rattle.session.specs.declared.Session.{Session}
 use Rattle.session.specs.Sessions.{Wide, sound}
@@ -18,13 +17,6 @@ use Rattle.session_summary.proofs.Summaries.{unsound-way, count-few, wo
 use borrow.Author.Needs.{needs}
 use Rattle.session_summary.proofs.summary.Statement.{statement}
 use Rattle.session_summary.proofs.summary.Tie as tie
-use Rattle.session_summary.proofs.summary.Reads as reads
-use Rattle.session_summary.proofs.summary.Lts as lts
-use Rattle.reuse_copies.proofs.turned.Reads as turned-reads
-use Rattle.session.proofs.Session.sound.Reads as sound-reads
-use Rattle.session_marks.proofs.gather.Reads as gather-reads
-use Rattle.session_points.proofs.work_out.Reads as work-out-reads
-use Rattle.summary_words.proofs.write.Reads as write-reads
 
 -- the start, from the place after the test
 abbrev start : tie.Else1 → tie.Start
@@ -62,8 +54,14 @@ returns c =
 cast-v : tie.Need-cast-v
 cast-v c = search needs
 
+slice-aggregate-work-out : tie.Need-slice-aggregate-work-out
+slice-aggregate-work-out c = search needs
+
 work-out-requires : tie.Need-work-out-requires
 work-out-requires c κs = search needs
+
+slice-aggregate-gather : tie.Need-slice-aggregate-gather
+slice-aggregate-gather c = search needs
 
 gather-requires : tie.Need-gather-requires
 gather-requires c κs = search needs
@@ -111,8 +109,8 @@ returns-2 c =
     let t = w .before .before .before .before .before .before .before in
     let g = t .before .before in
     let z = tested g in
-    let o = g .before .before .before .before .before .before .before .work-out in
-    let marks = ap (λ (r : Worked). r .marks) (o .ensures) ∙ worked (given z) (summed (given z) (sound-facts (given z) (wide (start z)) (ok z))) in
+    let o = g .before .before .before .before .before .before .work-out in
+    let marks = o .ensures .1 ∙ worked (given z) (summed (given z) (sound-facts (given z) (wide (start z)) (ok z))) _ (length-replicate {A = ℕ} slotCount 0) in
     words-given (given z) (wide (start z)) (ok z) (start z .args .out .now) (g .gather .result) (t .turned .result) _ _ (g .gather .ensures ∙ ap (gatheredRow (given z .slots)) marks) (t .turned .ensures) (w .write .ensures)
 
 pub summary-spec : {M : Type 1} → statement M
@@ -122,7 +120,9 @@ summary-spec =
     sound-requires
     returns
     cast-v
+    slice-aggregate-work-out
     work-out-requires
+    slice-aggregate-gather
     gather-requires
     array-share-prefix-marked
     slice-aggregate-turned
