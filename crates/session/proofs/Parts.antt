@@ -58,7 +58,7 @@ same-step a reads first hist slots count rights next = cc
 same-cold : {n n′ k k′ : ℕ} → n ≡ n′ → k ≡ k′ → _≡_ {A = Answer} (Cold n k) (Cold n′ k′)
 same-cold n k = cc
 
-same-distance : {d d′ n n′ k k′ : ℕ} → d ≡ d′ → n ≡ n′ → k ≡ k′ → _≡_ {A = Answer} (Distance d n k) (Distance d′ n′ k′)
+pub same-distance : {d d′ n n′ k k′ : ℕ} → d ≡ d′ → n ≡ n′ → k ≡ k′ → _≡_ {A = Answer} (Distance d n k) (Distance d′ n′ k′)
 same-distance d n k = cc
 
 -- ways up that read the same

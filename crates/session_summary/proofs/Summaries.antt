@@ -12,9 +12,7 @@ use Rattle.reuse.specs.Summary.{words, summaryOf, missesOf, servableOf}
 use Rattle.reuse.specs.Limits.{maxExtents, slotCount}
 use Rattle.reuse_rows.specs.Rows.{padded}
 use Rattle.summary_calls.specs.declared.Written.{Written}
-use Rattle.summary_calls.specs.declared.MissCount.{MissCount}
 use Rattle.summary_calls.specs.declared.MissCount.the-variants.{Misses}
-use Rattle.summary_calls.specs.declared.ShareAnswer.{ShareAnswer}
 use Rattle.summary_calls.specs.declared.ShareAnswer.the-variants.{Answered}
 use Rattle.summary_calls.specs.Calls.{Wrote, wrote, refused, wordsCall, shareAt}
 use Rattle.summary_calls.specs.HitShares.{NoneOf, Between, Full}
@@ -30,7 +28,7 @@ use Rattle.reuse_copies.proofs.Padding.{padded-front}
 use Rattle.session_marks.proofs.Marks.{row-count}
 use Rattle.session_marks.proofs.Passes.{gathered-pair}
 use Rattle.session_marks.proofs.Search.{pair-of}
-use Rattle.session_calls.proofs.Sound.{Kept, length-first, kept-few, kept-wide}
+use Rattle.session_calls.proofs.Sound.{Kept, length-first, kept-few}
 use Rattle.session_calls.proofs.Summaries as old
 use Rattle.session.proofs.Corresponds.{sound-facts, old-kept, old-sound, summed}
 use Rattle.session.proofs.Parts.{count-is}

@@ -12,8 +12,6 @@ use Rattle.reuse.specs.Limits.{maxReads, slotCount, levels}
 use Rattle.session_sums.specs.Sums.{neighbours}
 use Rattle.session_rights.specs.Rights.{rightsOf}
 use Rattle.session_rights.specs.Ways.{fromLeft}
-use Rattle.session_calls.specs.declared.Answer.{Answer}
-use Rattle.session_calls.specs.declared.Answer.the-variants.{Distance}
 use Rattle.session_calls.specs.Sessions as full
 use Rattle.session_calls.specs.Sessions.{FullSession}
 use Rattle.session_calls.specs.Reads as full-reads
@@ -27,6 +25,7 @@ use Rattle.session_calls.proofs.Sound.{Kept}
 use Rattle.session_calls.proofs.Taken.{slot-below}
 use Rattle.session_calls.proofs.Read as old
 use Rattle.session.proofs.Corresponds.{Facts, sound-facts, new-old, old-sound, new-wide, new-sound}
+use Rattle.session.proofs.Parts.{same-distance}
 use Rattle.session_traces.proofs.Stands.{Stands, stands-new, stands-facts, old-room, old-roomed}
 
 -- x would be one extent too many for the trace t
@@ -60,10 +59,6 @@ module _ (o : FullSession) (k : Kept o) (n : ℕ) (l : n < slotCount) where
   same-way : sum (map (λ p. getD (rightsOf levels (full.marks o)) p 0) (fromLeft levels 0 n)) ≡ sum (map (λ p. getD (o .sums) p 0) (neighbours slotCount levels n))
   same-way = same-total levels n l (full.marks o) (k .rows .wide) ∙ ap (λ (t : List ℕ). sum (map (λ p. getD t p 0) (neighbours slotCount levels n))) (sym (k .tree))
 
--- answers with equal numbers
-same-distance : {d d′ n n′ k k′ : ℕ} → d ≡ d′ → n ≡ n′ → k ≡ k′ → _≡_ {A = Answer} (Distance (suc d) n k) (Distance (suc d′) n′ k′)
-same-distance d n k = cc
-
 -- the distance of an accepted read of a known extent is 1 plus the total of the right-hand sums on the way up, of every sound session
 pub walks : Walks
 unfolding roomed
@@ -81,7 +76,7 @@ walks s w ok x old-one short =
           ap (λ (r : Step). r .answer) (read-old s w ok x)
           ∙ h .answer
           ∙ same-distance
-          (sym (ap (λ (n : ℕ). totalAt (roomed s) (fromLeft levels 0 n)) slot ∙ same-way ro (m .kept) (full-reads.slotOf ro x) below))
+          (ap suc (sym (ap (λ (n : ℕ). totalAt (roomed s) (fromLeft levels 0 n)) slot ∙ same-way ro (m .kept) (full-reads.slotOf ro x) below)))
           (h .zeros-read ∙ sym (left-count levels (full-reads.slotOf ro x) below) ∙ ap (λ (n : ℕ). length (fromLeft levels 0 n)) (sym slot))
           (ap (λ (n : ℕ). ro .next - n) (sym slot));
       zeros-read = left-count levels (slotOf (roomed s) x) (omega (arith, slot, below));

@@ -1,6 +1,6 @@
 // A session kept in lent words.
-use session_calls::Answer;
 use session::Session;
+use session_calls::Answer;
 use session_layout::SESSION;
 use summary_calls::MissCount;
 use summary_calls::ShareAnswer;

@@ -5,8 +5,8 @@ use crate::count::Count;
 use crate::logs;
 use crate::words;
 use reuse::MAX_EXTENTS;
-use session_calls::Answer;
 use session::Session;
+use session_calls::Answer;
 
 // How many logs there are.
 const LOGS: usize = 48;

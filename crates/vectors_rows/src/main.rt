@@ -4,9 +4,9 @@ use libc::STDOUT_FILENO;
 use reuse::MAX_EXTENTS;
 use reuse::MAX_READS;
 use reuse::SLOTS;
-use session_calls::Answer;
 use session::Session;
 use session::Step;
+use session_calls::Answer;
 
 // The session after one more read.
 fn one_more(s: Session, extent: u32) -> Session {

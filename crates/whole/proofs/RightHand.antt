@@ -1,6 +1,6 @@
 -- The new session and the old one: each sound old session has one new one, and all calls of the two agree.
 use Prim.Native.Nat.{ℕ}
-use mathlib.Core.Path.{_≡_, refl, sym, ap, subst, _∙_}
+use mathlib.Core.Path.{_≡_, refl, sym, ap, _∙_}
 use mathlib.Core.Logic.{_↔_, _≢_}
 use mathlib.Core.Bool.{Bool, true, false, cond}
 use mathlib.Core.List.{List, [], _∷_}
@@ -15,7 +15,7 @@ use Rattle.summary_calls.specs.declared.MissCount.{MissCount}
 use Rattle.summary_calls.specs.declared.MissCount.the-variants.{Misses, Refused as NoMisses}
 use Rattle.summary_calls.specs.declared.ShareAnswer.{ShareAnswer}
 use Rattle.summary_calls.specs.declared.ShareAnswer.the-variants.{Answered, Refused as NoShare}
-use Rattle.summary_calls.specs.Calls.{Wrote, wrote, shareAt}
+use Rattle.summary_calls.specs.Calls.{wrote, shareAt}
 use Rattle.reuse.specs.Summary.{missesOf}
 use Rattle.session_rights.specs.Rights.{marksFrom, zeroOne, Gives}
 use Rattle.session_calls.specs.declared.Answer.{Answer}
@@ -26,17 +26,16 @@ use Rattle.session_calls.specs.Reads as full-reads
 use Rattle.session_calls.specs.Reads.{FullStep}
 use Rattle.session_calls.specs.Summaries as full-calls
 use Rattle.session.specs.declared.Session.{Session}
-use Rattle.session.specs.declared.Step.{Step}
 use Rattle.session.specs.Sessions.{Wide, newOf, oldOf, fresh, sound}
-use Rattle.session.specs.Reads.{newStep, roomed, readOf}
+use Rattle.session.specs.Reads.{roomed, readOf}
 use Rattle.session_summary.specs.Summaries.{summaryCall, missesCall, shareCall}
-use Rattle.moments.specs.Names.{isName, lies, isSet, sessionUnder, nameCall, returnCall, Named}
+use Rattle.moments.specs.Names.{isName, lies, isSet, sessionUnder, Named}
 use Rattle.whole.specs.Runs.{sessionAfter, answersOf}
 use Rattle.whole.specs.Looks.{lookedAlong}
 use Rattle.whole.specs.RightHand.{SoundFull, SoundNew, HasOld, fullAfter, fullAnswers, fullLooked, StandsUnder, Corresponds, Tested, RightHand}
-use Rattle.reuse.proofs.Lists.{by-test, clash}
+use Rattle.reuse.proofs.Lists.{by-test}
 use Rattle.session_marks.proofs.Marks.{row-zero-one}
-use Rattle.session_calls.proofs.Sound.{Kept, Sound, true-sound, fresh-kept, kept-wide, fresh-sound}
+use Rattle.session_calls.proofs.Sound.{Sound, true-sound, fresh-kept, kept-wide, fresh-sound}
 use Rattle.session_calls.proofs.Taken.{kept-roomed}
 use Rattle.session_calls.proofs.Read as old
 use Rattle.session.proofs.Corresponds.{sound-facts, old-new, one-old, new-old, old-sound, new-wide, new-sound, fresh-new, read-new}

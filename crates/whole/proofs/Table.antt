@@ -139,6 +139,7 @@ pub table : Table
 unfolding distances distance since depth afterCall wrote joinCall missesCall shareCall shareOf wellFormed words summaryOf histogram joinOf joinedFirst joinedRecent joinedCounts joinedCount countFor shared across hitsOf missesOf servableOf readsOf extentsOf firstOf recentOf countsOf mem allIn distinct remove inside outside before firsts cleanup from sum count countAt reuses touch cacheMisses cacheHits hitCount servable hits admit evict oldest lastRead AllUnset parts logOf roomy remembered remember readOwed isName lies placeStart
 table = record {
   sizes-defined = (refl, refl, refl, refl, refl);
+  rights-defined = (refl, refl);
   work-defined = λ p. refl;
   reads-called = seven-run .0;
   sums-called = ap (map sumsRead) (seven-run .0);

@@ -1,12 +1,12 @@
 -- The rows that 01 marks with a star, and 02's of newcomers, of slots looked at, of hit shares, of named moments and of sizes. Each has two halves: what the calls answer, and what the log's own definitions give.
-use Prim.Native.Nat.{ℕ, _*_, _^_}
+use Prim.Native.Nat.{ℕ, _+_, _*_, _^_}
 use mathlib.Core.Path.{_≡_}
 use mathlib.Core.List.{List, [], _∷_, _++_, map}
 use mathlib.Core.Bool.{true, false}
 use lib.IntN.{pos, negsuc}
 use lib.Ieee.{binary64, fin, round}
 use lib.ListN.{length, replicate}
-use Rattle.reuse.specs.Limits.{maxExtents, slotCount, sumCount, levels}
+use Rattle.reuse.specs.Limits.{maxExtents, slotCount, sumCount, rightCount, levels}
 use Rattle.reuse.specs.Lru.{cold, at, reuses, distances}
 use Rattle.reuse.specs.Written.{wordOf}
 use Rattle.reuse.specs.Cache.{cacheMisses}
@@ -114,6 +114,8 @@ CallsAre calls answers = (names : List ℕ) → Unset names → lies (length nam
 pub record Table : Type 0 where
   -- 1,024 extents, 2,048 slots, 4,095 sums, slot numbers of eleven binary digits
   pub sizes-defined : (maxExtents ≡ 1_024) × (slotCount ≡ 2_048) × (sumCount ≡ 4_095) × (slotCount ≡ 2 ^ 11) × (levels ≡ 11)
+  -- 2,047 right-hand sums in place of the 4,095, one for each branching point
+  pub rights-defined : (rightCount ≡ 2_047) × (rightCount + slotCount ≡ sumCount)
   -- a plan of depth k needs 6,148k work words
   pub work-defined : (p : Plan) → workWords p ≡ 6_148 * depth p
   -- 7 3 7 9 3 3 9: cold 1, cold 2, 2, cold 3, 3, 1, 2; sums read 0 0 11 0 10 10 9; slots looked at 0 1 2 3 3 1 3

@@ -8,9 +8,6 @@ use Rattle.session_points.proofs.Spreads.{Spread, spread-start, spread-
 use borrow.Author.Needs.{needs}
 use Rattle.session_points.proofs.spread.Statement.{statement}
 use Rattle.session_points.proofs.spread.Tie as tie
-use Rattle.session_points.proofs.spread.Reads as reads
-use Rattle.session_points.proofs.spread.Lts as lts
-use Rattle.session_points.proofs.remaining.Reads as remaining-reads
 
 abbrev Inv-loop : tie.InvT-loop
 Inv-loop marks₀ m rights good₀ i₀ marks good i = Spread m marks₀ rights marks good i

@@ -11,9 +11,6 @@ use Rattle.session_points.proofs.Downs.{worked-other, worked-short, Dow
 use borrow.Author.Needs.{needs}
 use Rattle.session_points.proofs.work_out.Statement.{statement}
 use Rattle.session_points.proofs.work_out.Tie as tie
-use Rattle.session_points.proofs.work_out.Reads as reads
-use Rattle.session_points.proofs.work_out.Lts as lts
-use Rattle.session_points.proofs.spread.Reads as spread-reads
 
 abbrev Inv-loop : tie.InvT-loop
 Inv-loop count rights marks₀ within₀ m₀ marks within m = Down count rights marks within m

@@ -5,7 +5,6 @@ use mathlib.Core.Logic.{⊎-elim}
 use Prim.Native.Nat.{ℕ, _-_, _≤_}
 use native.Mathlib.Omega.{arith}
 use lib.ListN.{drop, drop-of-length-le}
-
 use Rattle.reuse.specs.Limits.{slotCount}
 use Rattle.session_marks.specs.Marks.{tidy}
 use Rattle.reuse_rows.proofs.Slices.{Passing, passed, failed, ended}
