@@ -44,7 +44,7 @@ Facts s = fields.Intact (s .reads) (s .first) (s .hist) (s .slots) (s .count) (s
 
 module _ (s : Session) where
   -- a session's widths, as its fields have them
-  fields-wide : Wide s → fields.Kept (s .first) (s .hist) (s .slots) (s .rights)
+  fields-wide : Wide s → fields.Widths (s .first) (s .hist) (s .slots) (s .rights)
   fields-wide w = record { first-wide = w .first-wide; hist-wide = w .hist-wide; slots-wide = w .slots-wide; rights-wide = w .rights-wide }
 
   -- the test gives the facts

@@ -33,7 +33,7 @@ module _ (reads : ℕ) (first hist slots : List ℕ) (count : ℕ) (rights : Lis
     -- where there are as many extents as the limit, F is all of its row, and has the extents of the stack
     listed : count ≡ maxExtents → mem x first ≡ mem x (stackIn slots marks)
     listed v =
-        let all : length first ≤ extentsIn marks = omega (arith, facts .kept .first-wide, facts .given .counted) in
+        let all : length first ≤ extentsIn marks = omega (arith, facts .wide .first-wide, facts .given .counted) in
         sym (ap (mem x) (take-all (extentsIn marks) first all)) ∙ kept-listed reads first hist slots marks next (facts .sound .rows) x
 
     -- a read too many

@@ -100,13 +100,13 @@ module _ (reads : ℕ) (first hist slots marks : List ℕ) (next : ℕ) where
         )
 
 -- the widths of a session's rows, by its right-hand sums
-pub record Kept (first hist slots rights : List ℕ) : Type 0 where
+pub record Widths (first hist slots rights : List ℕ) : Type 0 where
   pub first-wide : length first ≡ maxExtents
   pub hist-wide : length hist ≡ maxExtents
   pub slots-wide : length slots ≡ slotCount
   pub rights-wide : length rights ≡ rightCount
 
-module _ (first hist slots : List ℕ) (count : ℕ) (rights : List ℕ) (k : Kept first hist slots rights) where
+module _ (first hist slots : List ℕ) (count : ℕ) (rights : List ℕ) (k : Widths first hist slots rights) where
   -- the marks worked out are as many as the slots
   pub worked-wide : length (marksFrom levels count rights) ≡ slotCount
   worked-wide = totals-length levels count rights (omega (arith, k .rights-wide))
@@ -143,15 +143,15 @@ module _ (first hist slots : List ℕ) (count : ℕ) (rights : List ℕ) (k : Ke
 
 -- what the test of all fields says: their widths, marks that give the count and the right-hand sums, and sound rows
 pub record Intact (reads : ℕ) (first hist slots : List ℕ) (count : ℕ) (rights : List ℕ) (next : ℕ) : Type 0 where
-  pub kept : Kept first hist slots rights
+  pub wide : Widths first hist slots rights
   pub given : Gives levels count rights (marksFrom levels count rights)
   pub sound : Sound reads first hist slots (marksFrom levels count rights) next
 
 -- right-hand sums and a count that some marks give, beside rows that are sound over them
-pub true-rightly : (reads : ℕ) (first hist slots : List ℕ) (count : ℕ) (rights : List ℕ) (next : ℕ) → Kept first hist slots rights
+pub true-rightly : (reads : ℕ) (first hist slots : List ℕ) (count : ℕ) (rights : List ℕ) (next : ℕ) → Widths first hist slots rights
     → rightly levels count rights ≡ true → soundRows reads first hist slots (marksFrom levels count rights) next ≡ true → Intact reads first hist slots count rights next
 true-rightly reads first hist slots count rights next k r ok = record {
-  kept = k;
+  wide = k;
   given = rightly-marks levels count rights (omega (arith, k .rights-wide)) r .0;
   sound = true-sound reads first hist slots (marksFrom levels count rights) next (kept-wide first hist slots count rights k) ok;
 }

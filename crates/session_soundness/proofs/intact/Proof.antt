@@ -12,7 +12,7 @@ use Rattle.session_points.specs.Points.{Worked}
 use Rattle.session_soundness.specs.Soundness.{soundRows, intactRows}
 use Rattle.session_rights.proofs.Rights.{worked-out}
 use Rattle.session_points.proofs.Downs.{worked-some}
-use Rattle.session_soundness.proofs.Sound.{Kept, kept-wide, intact-above, intact-within}
+use Rattle.session_soundness.proofs.Sound.{Widths, kept-wide, intact-above, intact-within}
 use borrow.Author.Needs.{needs}
 use Rattle.session_soundness.proofs.intact.Statement.{statement}
 use Rattle.session_soundness.proofs.intact.Tie as tie
@@ -22,7 +22,7 @@ abbrev start : tie.Else4 → tie.Start
 start c = c .before .before .before .before .before .before .before .before
 
 -- the widths of the rows
-kept : (c : tie.Else4) → Kept (start c .args .first .now) (start c .args .hist .now) (start c .args .slots .now) (start c .args .rights .now)
+kept : (c : tie.Else4) → Widths (start c .args .first .now) (start c .args .hist .now) (start c .args .slots .now) (start c .args .rights .now)
 kept c = record { first-wide = c .before .before .before .if1 .left; hist-wide = c .before .before .if2 .left; slots-wide = c .before .if3 .left; rights-wide = c .if4 .left }
 
 -- what was worked out
