@@ -150,7 +150,7 @@ int64_t jemqolu_list(const uint8_t *text, size_t text_len, uint8_t *out, size_t 
  *                     of a slot, 2,048 + q that of point q
  *   word 6145         the next slot
  * Words lent past these are neither read nor written.
- * Each call on a session copies its 24 KB and tests all of it: 6 to 13 microseconds a read, however few extents it has, where
+ * Each call on a session copies its 24 KB and tests all of it: 5 to 18 microseconds a read, however few extents it has, where
  * jemqolu_summarize and jemqolu_distances take 0.003 to 0.16 a read. Whoever has a list of reads calls those. */
 
 /* A new session. Lent: 6,146 words. Answer: 6,146. Refusal: -6. */
