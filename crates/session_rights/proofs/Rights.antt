@@ -90,10 +90,6 @@ pub only-row : {d count : ℕ} {rights marks : List ℕ} → Gives d count right
 only-row {d} {count} {rights} {marks} g =
     sym (marks-back d marks (g .full)) ∙ ap (λ (n : ℕ). marksFrom d n (rightsOf d marks)) (g .counted) ∙ ap (marksFrom d count) (g .summed)
 
--- two rows with the same count and right-hand sums are equal
-pub same-row : {d count : ℕ} {rights marks marks′ : List ℕ} → Gives d count rights marks → Gives d count rights marks′ → marks ≡ marks′
-same-row g g′ = only-row g ∙ sym (only-row g′)
-
 -- right-hand sums that pass the test are given by the marks worked out, each 0 or 1
 pub rightly-marks : (d count : ℕ) (rights : List ℕ) → length rights + 1 ≡ 2 ^ d → rightly d count rights ≡ true
     → Gives d count rights (marksFrom d count rights) × (zeroOne (marksFrom d count rights) ≡ true)

@@ -99,25 +99,6 @@ sums-blank-row (suc d) n e =
 pub after : (l rest : List ℕ) (k m : ℕ) → k ≡ length l + m → getD (l ++ rest) k 0 ≡ getD rest m 0
 after l rest k m b = rw (b, getD-append-add)
 
--- the root is the sum of the leaves
-pub root-of : (d : ℕ) (l : List ℕ) → length l ≡ leaves d → getD (sumsOf d l) (leaves d + leaves d - 2) 0 ≡ sum l
-unfolding sumsOf leaves sum
-root-of zero [] e = absurd (omega arith)
-root-of zero (a ∷ []) e = omega arith
-root-of zero (a ∷ (b ∷ l)) e = absurd (omega arith)
-root-of (suc d) l e =
-    let pos = leaves-pos d in
-    after l (sumsOf d (pairs l)) (leaves d + leaves d + (leaves d + leaves d) - 2) (leaves d + leaves d - 2) (omega arith)
-    ∙ root-of d (pairs l) (length-pairs (leaves d) l (e ∙ sym (double-is (leaves d))))
-    ∙ sum-pairs l
-
--- the root of true sums is the number of marks
-pub trued-root : (d N : ℕ) (S : List ℕ) → Trued d N S → leaves d ≡ N → getD S (N + N - 2) 0 ≡ sum (take N S)
-trued-root d N S t e =
-    ap (λ (l : List ℕ). getD l (N + N - 2) 0) (t .true-sums)
-    ∙ ap (λ (k : ℕ). getD (sumsOf d (take N S)) (k + k - 2) 0) (sym e)
-    ∙ root-of d (take N S) (t .full ∙ sym e)
-
 -- sums made over a row of marks are true
 pub trued-of : (d N : ℕ) (S ms : List ℕ) → S ≡ sumsOf d ms → length ms ≡ N → sum ms ≤ N → Trued d N S
 trued-of d N S ms t e few =

@@ -34,6 +34,7 @@ use Rattle.whole.specs.Runs.{sessionAfter, answersOf}
 use Rattle.whole.specs.Looks.{lookedAlong}
 use Rattle.whole.specs.RightHand.{SoundFull, SoundNew, HasOld, fullAfter, fullAnswers, fullLooked, StandsUnder, Corresponds, Tested, RightHand}
 use Rattle.reuse.proofs.Lists.{by-test}
+use Rattle.session_rights.proofs.Rights.{rightly-exactly}
 use Rattle.session_marks.proofs.Marks.{row-zero-one}
 use Rattle.session_calls.proofs.Sound.{Sound, true-sound, fresh-kept, kept-wide, fresh-sound}
 use Rattle.session_calls.proofs.Taken.{kept-roomed}
@@ -217,6 +218,7 @@ module _ (s : Session) (w : Wide s) where
         seven (shareCall s c) (Answered (shareAt (full-calls.sessionWords (oldOf s)) c)) (NoShare 7)
         (λ ok. unfold shareCall full-calls.shareCall in rw (ok, ok-old ok)) (λ bad. unfold shareCall in rw bad)
         (λ ok e. let q : _≡_ {A = ℕ} 0 7 = ap shareNumber e in omega arith);
+    rightly-exactly = rightly-exactly levels (s .count) (s .rights) (omega (arith, w .rights-wide));
     no-marks = no-marks;
   }
 

@@ -9,7 +9,7 @@ use Rattle.reuse.specs.Limits.{levels}
 use Rattle.summary_calls.specs.declared.Written.the-variants.{Refused as NotWritten}
 use Rattle.summary_calls.specs.declared.MissCount.the-variants.{Refused as NoMisses}
 use Rattle.summary_calls.specs.declared.ShareAnswer.the-variants.{Refused as NoShare}
-use Rattle.session_rights.specs.Rights.{zeroOne, Gives}
+use Rattle.session_rights.specs.Rights.{zeroOne, rightly, Gives}
 use Rattle.session_calls.specs.declared.Answer.{Answer}
 use Rattle.session_calls.specs.declared.Answer.the-variants.{Refused}
 use Rattle.session_calls.specs.Sessions as full
@@ -94,7 +94,9 @@ pub record Tested (s : Session) : Type 0 where
   pub seven-summary : (buffer : List ℕ) → summaryCall s buffer .answer ≡ NotWritten 7 ↔ (HasOld s → ⊥)
   pub seven-misses : (c : ℕ) → missesCall s c ≡ NoMisses 7 ↔ (HasOld s → ⊥)
   pub seven-share : (c : ℕ) → shareCall s c ≡ NoShare 7 ↔ (HasOld s → ⊥)
-  -- it corresponds to none where no marks, each 0 or 1, give its count and its right-hand sums
+  -- the test of its count and its right-hand sums is true exactly if some marks, each 0 or 1, give them
+  pub rightly-exactly : rightly levels (s .count) (s .rights) ≡ true ↔ ((marks : List ℕ) × Gives levels (s .count) (s .rights) marks × (zeroOne marks ≡ true))
+  -- it corresponds to none where no such marks give them
   pub no-marks : ((marks : List ℕ) → Gives levels (s .count) (s .rights) marks → zeroOne marks ≡ true → ⊥) → HasOld s → ⊥
 
 -- the two sessions: each sound old one has one new one, each sound new one one old one
