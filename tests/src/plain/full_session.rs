@@ -1,19 +1,14 @@
 //! Sessions as words with all sums of the tree over the slots: the form that sessions with right-hand sums alone are
 //! compared with.
 
-use super::session::{Reading, SLOTS};
-use super::{hit_share, summary, trace, COLD_BASE, MAX_EXTENTS, MAX_READS};
+use super::session::{above, admitted, summed_up, Reading, SLOTS};
+use super::{hit_share, trace, COLD_BASE, MAX_EXTENTS, MAX_READS};
 use crate::{refusal, Answer};
 use std::ops::Range;
 
-/// Where the reads accepted, L, stand.
-pub const READS: usize = 0;
-/// Where F, the extents by first read, stands.
-pub const FIRSTS: Range<usize> = 1..1 + MAX_EXTENTS;
-/// Where H, the histogram, stands.
-pub const COUNTS: Range<usize> = FIRSTS.end..FIRSTS.end + MAX_EXTENTS;
-/// Where the slots stand.
-pub const SLOT: Range<usize> = COUNTS.end..COUNTS.end + SLOTS;
+/// The reads, F, H and the slots stand as in the other form.
+pub use super::session::{COUNTS, FIRSTS, READS, SLOT};
+
 /// Where the sums stand, the leaves first, the root last.
 pub const SUMS: Range<usize> = SLOT.end..SLOT.end + 2 * SLOTS - 1;
 /// Where the next slot stands.
@@ -182,13 +177,7 @@ pub fn read(words: &mut [u32], extent: u32) -> Answer<Reading> {
     if !sound(words) {
         return Err(refusal::STATE);
     }
-    if u64::from(words[READS]) + 1 > MAX_READS {
-        return Err(refusal::READS);
-    }
-    let extents = marked(words);
-    if !extents.contains(&extent) && extents.len() + 1 > MAX_EXTENTS {
-        return Err(refusal::EXTENTS);
-    }
+    admitted(words, &marked(words), extent)?;
     Ok(accept(words, extent))
 }
 
@@ -197,18 +186,7 @@ pub fn summary(words: &[u32]) -> Answer<Vec<u32>> {
     if !sound(words) {
         return Err(refusal::STATE);
     }
-    let mut recents = marked(words);
-    recents.reverse();
-    let v = recents.len();
-    let parts = [&[words[READS], v as u32], &words[FIRSTS][..v], &recents, &words[COUNTS][..v]];
-    let words = parts.concat();
-    assert!(summary::well_formed(&words).is_some(), "a sound session has a well-formed summary");
-    Ok(words)
-}
-
-/// The reads of a distance above a size.
-fn above(words: &[u32], size: u32) -> u64 {
-    words[COUNTS].iter().skip(size as usize).map(|count| u64::from(*count)).sum()
+    Ok(summed_up(words, marked(words)))
 }
 
 /// The call for misses: the cold reads, one for each mark, and the reads of a distance above the size.

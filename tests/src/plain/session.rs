@@ -243,19 +243,34 @@ pub fn of(trace: &[u32]) -> Vec<u32> {
     words
 }
 
+/// Whether a sound session with these extents may read one more: not past the limit of reads, then not past that of extents.
+pub fn admitted(words: &[u32], extents: &[u32], extent: u32) -> Answer<()> {
+    if u64::from(words[READS]) + 1 > MAX_READS {
+        return Err(refusal::READS);
+    }
+    if !extents.contains(&extent) && extents.len() + 1 > MAX_EXTENTS {
+        return Err(refusal::EXTENTS);
+    }
+    Ok(())
+}
+
 /// The call for one more read; a refusal leaves the session as it was.
 pub fn read(words: &mut [u32], extent: u32) -> Answer<Reading> {
     if !sound(words) {
         return Err(refusal::STATE);
     }
-    if u64::from(words[READS]) + 1 > MAX_READS {
-        return Err(refusal::READS);
-    }
-    let extents = marked(words);
-    if !extents.contains(&extent) && extents.len() + 1 > MAX_EXTENTS {
-        return Err(refusal::EXTENTS);
-    }
+    admitted(words, &marked(words), extent)?;
     Ok(accept(words, extent))
+}
+
+/// The summary of a sound session with these extents in its marked slots, in the slots' order.
+pub fn summed_up(words: &[u32], mut recents: Vec<u32>) -> Vec<u32> {
+    recents.reverse();
+    let v = recents.len();
+    let parts = [&[words[READS], v as u32], &words[FIRSTS][..v], &recents, &words[COUNTS][..v]];
+    let words = parts.concat();
+    assert!(summary::well_formed(&words).is_some(), "a sound session has a well-formed summary");
+    words
 }
 
 /// The call for the summary of the reads accepted.
@@ -263,17 +278,11 @@ pub fn summary(words: &[u32]) -> Answer<Vec<u32>> {
     if !sound(words) {
         return Err(refusal::STATE);
     }
-    let mut recents = marked(words);
-    recents.reverse();
-    let v = recents.len();
-    let parts = [&[words[READS], v as u32], &words[FIRSTS][..v], &recents, &words[COUNTS][..v]];
-    let words = parts.concat();
-    assert!(summary::well_formed(&words).is_some(), "a sound session has a well-formed summary");
-    Ok(words)
+    Ok(summed_up(words, marked(words)))
 }
 
 /// The reads of a distance above a size.
-fn above(words: &[u32], size: u32) -> u64 {
+pub fn above(words: &[u32], size: u32) -> u64 {
     words[COUNTS].iter().skip(size as usize).map(|count| u64::from(*count)).sum()
 }
 
