@@ -1,4 +1,6 @@
 // The distances of a part's reads after the summary of all that was read before it.
+#![tactic(auto)]
+
 mod passes;
 
 ghost use Rattle.std.specs.Prelude.{◌≡◌};

@@ -1,4 +1,6 @@
 // The smallest cache for a miss allowance.
+#![tactic(auto)]
+
 ghost use Rattle.std.specs.Prelude.{◌≡◌};
 ghost use Rattle.allowance_calls.specs.Search.{searched};
 ghost use Rattle.allowance_calls.specs.Calls.{smallest_call};

@@ -1,4 +1,6 @@
 // What C, Rust and Python call: numbers, and each slice as a pointer and then a length.
+#![tactic(auto)]
+
 mod allowances;
 mod bracket_texts;
 mod insertions;

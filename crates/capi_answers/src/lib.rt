@@ -1,4 +1,6 @@
 // Answers as one signed number: what was asked for, or the negative of the refusal's number.
+#![tactic(auto)]
+
 ghost use Rattle.std.specs.Prelude.{◌≡◌, min, pos};
 ghost use Rattle.capi_answers.specs.Answers.{negative, most_signed, counted_most, missed, shared, share_left, told, sums_left, slots_left, noted, missed_in_all, changed, change_left, sized, words_left, done};
 

@@ -1,4 +1,6 @@
 // Feeds log texts to the lister byte by byte, and in cuttings into two or three pieces.
+#![tactic(auto)]
+
 mod long;
 mod pieces;
 mod report;

@@ -1,4 +1,6 @@
 // Feeds listers that no text gives: each is refused 7 and comes back word for word.
+#![tactic(auto)]
+
 use libc::STDOUT_FILENO;
 use listing::{Lister, Phase};
 use listing_tally::LONGEST;

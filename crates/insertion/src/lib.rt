@@ -1,4 +1,6 @@
 // What one more read put into a trace does to the misses of a cache.
+#![tactic(auto)]
+
 mod passes;
 
 ghost use Rattle.std.specs.Prelude.{◌≡◌};

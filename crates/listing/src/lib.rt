@@ -1,4 +1,6 @@
 // The listing of a log text: its reads, its cold reads, and for every size from 1 to the number of its extents the misses.
+#![tactic(auto)]
+
 ghost use Rattle.std.specs.Prelude.{◌≡◌, ◌≤◌, take};
 ghost use Rattle.reuse.specs.Limits.{max_extents};
 ghost use Rattle.texts.specs.Logs.{longest_line};

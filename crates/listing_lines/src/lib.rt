@@ -1,4 +1,6 @@
 // The lines of a log text, each without its byte 10.
+#![tactic(auto)]
+
 ghost use Rattle.std.specs.Prelude.{◌≡◌};
 ghost use Rattle.texts.specs.Logs.{trace_word, row_of};
 ghost use Rattle.texts.specs.Words.{after};

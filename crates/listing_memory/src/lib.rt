@@ -1,4 +1,6 @@
 // A log text listed in memory.
+#![tactic(auto)]
+
 ghost use Rattle.std.specs.Prelude.{◌≡◌};
 ghost use Rattle.listing_memory.specs.Calls.{list_call};
 

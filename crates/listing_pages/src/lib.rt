@@ -1,4 +1,6 @@
 // Pages of output: that of a listing, and that of a refusal.
+#![tactic(auto)]
+
 ghost use Rattle.std.specs.Prelude.{◌≡◌, length};
 ghost use Rattle.listing_texts.specs.Listings.{refused_text};
 ghost use Rattle.listing_texts.specs.Tallies.{misses_by};

@@ -1,4 +1,6 @@
 // Pieces of output laid on a page of bytes.
+#![tactic(auto)]
+
 ghost use Rattle.std.specs.Prelude.{◌≡◌, ◌+◌, ◌≤◌};
 ghost use Rattle.texts.specs.Digits.{decimal};
 ghost use Rattle.listing_texts.specs.Pages.{row_closes, line_end};

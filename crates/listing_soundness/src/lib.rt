@@ -1,4 +1,6 @@
 // Whether the parts of a lister stand for a log text taken so far.
+#![tactic(auto)]
+
 ghost use Rattle.std.specs.Prelude.{◌≡◌};
 ghost use Rattle.listing_soundness.specs.Soundness.{holds_line, holds_tally, refuses_text, holds_phase};
 

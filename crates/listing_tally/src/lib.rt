@@ -1,4 +1,6 @@
 // What a line does to a log text taken so far.
+#![tactic(auto)]
+
 ghost use Rattle.std.specs.Prelude.{◌≡◌};
 ghost use Rattle.texts.specs.Words.{after};
 ghost use Rattle.texts.specs.Logs.{trace_word};

@@ -1,4 +1,6 @@
 // A piece of a log text, taken line by line.
+#![tactic(auto)]
+
 ghost use Rattle.std.specs.Prelude.{◌≡◌};
 ghost use Rattle.listing_turns.specs.Turns.{is_stopped, reaches, turn_at, turn_after, advanced};
 

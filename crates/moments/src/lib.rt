@@ -1,4 +1,6 @@
 // Named moments: a session put under a name in lent words, and the session under a name returned to.
+#![tactic(auto)]
+
 ghost use Rattle.std.specs.Prelude.{◌≡◌, true};
 ghost use Rattle.moments.specs.Names.{is_name, place_start, is_set, new_names, name_call, return_call};
 

@@ -1,4 +1,6 @@
 // Named moments of a session kept in lent words.
+#![tactic(auto)]
+
 ghost use Rattle.std.specs.Prelude.{◌≡◌};
 ghost use Rattle.moments_words.specs.Calls.{name_in, return_in, is_done};
 

@@ -1,4 +1,6 @@
 // Joining plans: a text says how a log is cut and grouped, and the plan is carried out in lent memory.
+#![tactic(auto)]
+
 mod evaluation;
 
 ghost use Rattle.std.specs.Prelude.{◌≡◌};

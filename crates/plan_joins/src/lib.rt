@@ -1,4 +1,6 @@
 // A level's join: two summaries in the work words of one level of joins.
+#![tactic(auto)]
+
 ghost use Rattle.std.specs.Prelude.{◌≡◌};
 ghost use Rattle.plan_joins.specs.Calls.{join_held};
 

@@ -1,4 +1,6 @@
 // The lines of a plan text.
+#![tactic(auto)]
+
 ghost use Rattle.std.specs.Prelude.{◌≡◌, ◌+◌, ◌≤◌, length, drop};
 ghost use Rattle.texts.specs.Digits.{number_of};
 ghost use Rattle.texts.specs.PlanPlaces.{join_ends, seg_ends, number_at, form_at};

@@ -1,4 +1,6 @@
 // The reader of plan texts: what plan a text is, or why it is none.
+#![tactic(auto)]
+
 mod forms;
 
 ghost use Rattle.std.specs.Prelude.{◌≡◌};

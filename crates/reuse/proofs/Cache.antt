@@ -207,7 +207,7 @@ admit-same (suc k) t held x d h z =
     let s : List ℕ = stack t in
     let n : length held ≡ length (take (suc k) s) = same_size held (take (suc k) s) d (distinct-take (suc k) s (distinct_stack t)) h in
     by-test (mem x held)
-    (λ m. simp m (rw (take-known k s x (distinct_stack t) (sym (h x) ∙ m), mem-remove)
+    (λ m. simp m (rw (take-known k s x (distinct_stack t) (sym (h x) ∙ m), mem-remove z x (take (suc k) s))
     (by-test (eqb z x) (λ e. simp e (rw (eqb-true z x e) m)) (λ e. simp e (h z)))))
     (λ m. rw (take-new k s x (sym (h x) ∙ m))
     (by-test (ltb (length held) (suc k))

@@ -1,4 +1,6 @@
 // Reuse distances: the definitions, their laws, and the limits.
+#![tactic(auto)]
+
 ghost use Rattle.std.specs.Prelude.{◌≡◌};
 ghost use Rattle.reuse.specs.Limits.{max_reads, max_extents, slot_count, right_count, levels, max_store, max_customers, max_names};
 

@@ -1,4 +1,6 @@
 // Words put into a row, and bytes into a row of bytes; rows as long as the limit; rows cleared.
+#![tactic(auto)]
+
 ghost use Rattle.std.specs.Prelude.{◌≡◌, reverse, length, replicate};
 ghost use Rattle.reuse_rows.specs.Rows.{placed, padded};
 

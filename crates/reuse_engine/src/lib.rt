@@ -1,4 +1,6 @@
 // The engine of all batch work: an LRU stack in a lent slice.
+#![tactic(auto)]
+
 ghost use Rattle.std.specs.Prelude.{◌≡◌, [], ◌∷◌, ◌++◌, ◌≤◌, length, drop};
 ghost use Rattle.reuse_engine.specs.Engine.{place_of, left_by, Shifted, Sunk};
 

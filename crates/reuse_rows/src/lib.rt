@@ -1,4 +1,6 @@
 // Rows of words: what stands in one, whether it is all 0, and what it adds up to.
+#![tactic(auto)]
+
 ghost use Rattle.std.specs.Prelude.{◌≡◌, ◌*◌, ◌≤◌, ◌^◌, length, take};
 ghost use Rattle.reuse.specs.Limits.{max_extents};
 ghost use Rattle.reuse.specs.Lists.{mem, sum};

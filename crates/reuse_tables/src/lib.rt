@@ -1,4 +1,6 @@
 // Tables of words: a word is looked up by the place that it falls to.
+#![tactic(auto)]
+
 ghost use Rattle.std.specs.Prelude.{◌≡◌, ◌++◌, suc, min, ◌<◌, length, take, drop, replicate};
 ghost use Rattle.reuse.specs.Limits.{max_extents};
 ghost use Rattle.reuse.specs.Lists.{mem, all_in, beside, distinct, firsts};

@@ -1,4 +1,6 @@
 // The layout of a session in words: a session taken from a row of words, and one put into it.
+#![tactic(auto)]
+
 ghost use Rattle.std.specs.Prelude.{◌≡◌};
 ghost use Rattle.reuse_rows.specs.Rows.{placed};
 ghost use Rattle.session_layout.specs.Layout.{kept_in, session_laid};

@@ -1,4 +1,6 @@
 // The slots beside their marks: the slot of an extent, and the marked extents gathered.
+#![tactic(auto)]
+
 ghost use Rattle.std.specs.Prelude.{◌≡◌};
 ghost use Rattle.session_marks.specs.Marks.{paired, found_in, gathered_row};
 

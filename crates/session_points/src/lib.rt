@@ -1,4 +1,5 @@
 // The right-hand sums of a session: ways from a slot up to the root, and the marks worked out from the root down. The nodes
+#![tactic(auto)]
 // of the tree are numbered: the slots first, then the branching points, the lowest level first, the root last. The children
 // of point p are the nodes 2p and 2p + 1, so the way up from node n comes to point n / 2.
 ghost use Rattle.std.specs.Prelude.{◌≡◌, ◌+◌, ◌-◌, ◌++◌, take, drop};

@@ -1,4 +1,6 @@
 // What refuses a read, by a session's fields.
+#![tactic(auto)]
+
 ghost use Rattle.std.specs.Prelude.{◌≡◌};
 ghost use Rattle.session_refusals.specs.Refusals.{refusal_of};
 

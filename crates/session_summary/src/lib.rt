@@ -1,4 +1,6 @@
 // A session's summary written out, its misses and its hit share.
+#![tactic(auto)]
+
 ghost use Rattle.std.specs.Prelude.{◌≡◌, true};
 ghost use Rattle.reuse.specs.Summary.{hits_of};
 ghost use Rattle.session.specs.Sessions.{sound};

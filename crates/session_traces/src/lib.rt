@@ -1,1 +1,2 @@
 // Sessions that have read a trace: laws, no code.
+#![tactic(auto)]

@@ -1,4 +1,6 @@
 // A session kept in lent words.
+#![tactic(auto)]
+
 ghost use Rattle.std.specs.Prelude.{◌≡◌};
 ghost use Rattle.session_words.specs.Calls.{new_session, read_in, session_left, summary_in, misses_in, share_in, is_read};
 

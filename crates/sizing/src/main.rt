@@ -1,4 +1,6 @@
 // Lists a log text: standard input is the log text, standard output its listing or its refusal.
+#![tactic(auto)]
+
 use libc::{STDIN_FILENO, STDOUT_FILENO};
 use listing::Lister;
 

@@ -1,4 +1,5 @@
 // One store split among customers: the shares with the fewest misses in all, of these the smallest total, then the smallest
+#![tactic(auto)]
 // first share, the second, and so on.
 mod search;
 

@@ -1,4 +1,6 @@
 // The test of customers' summaries that stand end to end, made on all of them before a store is split.
+#![tactic(auto)]
+
 ghost use Rattle.std.specs.Prelude.{◌≡◌};
 ghost use Rattle.split_calls.specs.Cuts.{cut_summaries};
 ghost use Rattle.split_calls.specs.Calls.{all_formed};

@@ -1,4 +1,6 @@
 // The rows of a split's table: a customer's misses at each size, and the least misses in each room with one customer more.
+#![tactic(auto)]
+
 ghost use Rattle.std.specs.Prelude.{◌≡◌, min, length};
 ghost use Rattle.split_calls.specs.Tables.{lowest};
 ghost use Rattle.split_rows.specs.Rows.{misses_row, enterable, entered_rows};

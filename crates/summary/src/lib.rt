@@ -1,4 +1,6 @@
 // Summaries as words in lent slices: the summary of a trace, the well-formedness test, join, misses and hit share.
+#![tactic(auto)]
+
 pub use summary_calls::{HitShare, MissCount, ShareAnswer, Written};
 pub use summary_counts::{misses, share, share_of};
 pub use summary_formed::well_formed;

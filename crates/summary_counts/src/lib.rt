@@ -1,4 +1,6 @@
 // Misses and hit share of a summary's words.
+#![tactic(auto)]
+
 ghost use Rattle.std.specs.Prelude.{◌≡◌};
 ghost use Rattle.reuse.specs.Summary.{hits_of};
 ghost use Rattle.summary_calls.specs.Shapes.{Given};

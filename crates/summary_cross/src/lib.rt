@@ -1,4 +1,6 @@
 // H of a join: both histograms, and the distances of B's first reads after A's stack.
+#![tactic(auto)]
+
 ghost use Rattle.std.specs.Prelude.{◌≡◌, length};
 ghost use Rattle.reuse_rows.specs.Rows.{one_more, padded};
 ghost use Rattle.summary_cross.specs.Crossing.{added, crossed};

@@ -1,4 +1,6 @@
 // The test of well-formedness, made on every summary handed in.
+#![tactic(auto)]
+
 ghost use Rattle.std.specs.Prelude.{◌≡◌};
 ghost use Rattle.reuse.specs.Summary.{well_formed};
 

@@ -1,4 +1,6 @@
 // The join of two summaries.
+#![tactic(auto)]
+
 ghost use Rattle.std.specs.Prelude.{◌≡◌, suc, min, length};
 ghost use Rattle.reuse.specs.Limits.{max_extents};
 ghost use Rattle.reuse.specs.Lists.{beside};

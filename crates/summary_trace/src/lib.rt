@@ -1,4 +1,6 @@
 // The summary of a whole trace in one call.
+#![tactic(auto)]
+
 ghost use Rattle.std.specs.Prelude.{◌≡◌};
 ghost use Rattle.summary_calls.specs.Calls.{trace_call};
 ghost use Rattle.summary_trace.specs.Tracing.{Blank, Taken};

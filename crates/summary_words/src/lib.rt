@@ -1,4 +1,6 @@
 // A summary's words written into a lent buffer, from its reads, F, R and H.
+#![tactic(auto)]
+
 ghost use Rattle.std.specs.Prelude.{◌≡◌};
 ghost use Rattle.reuse.specs.Summary.{words};
 ghost use Rattle.reuse_rows.specs.Rows.{put_at};

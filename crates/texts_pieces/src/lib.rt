@@ -1,4 +1,6 @@
 // The pieces of a line that plans and logs are read by: a run of one byte, a word, a number, all up to the line's end.
+#![tactic(auto)]
+
 ghost use Rattle.std.specs.Prelude.{◌≡◌, ◌+◌, ◌≤◌, drop};
 ghost use Rattle.texts.specs.Words.{run_of, word_at};
 ghost use Rattle.texts_pieces.specs.Pieces.{found_at, line_length};

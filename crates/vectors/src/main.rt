@@ -1,4 +1,6 @@
 // Compares each read of many logs with a direct cache simulation.
+#![tactic(auto)]
+
 use libc::STDOUT_FILENO;
 
 mod cache;

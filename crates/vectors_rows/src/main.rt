@@ -1,4 +1,6 @@
 // Prints the rows that are run and not proved: what a session answers at its limits, one line a row.
+#![tactic(auto)]
+
 ghost use Rattle.std.specs.Prelude.{◌<◌};
 
 use libc::STDOUT_FILENO;

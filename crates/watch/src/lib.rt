@@ -1,4 +1,6 @@
 // A watch on one cache size: reads, cold reads and hits, kept with the caller and changed there by each answer.
+#![tactic(auto)]
+
 ghost use Rattle.std.specs.Prelude.{◌≡◌, true, ◌+◌, ◌≤◌};
 ghost use Rattle.watch.specs.Watching.{new_of, sound_of, in_range, counted_by, noted_of, misses_call, share_call, heard_of};
 

@@ -1,4 +1,6 @@
 // A watch kept in lent words.
+#![tactic(auto)]
+
 ghost use Rattle.std.specs.Prelude.{◌≡◌, ◌≤◌, length};
 ghost use Rattle.reuse_rows.specs.Rows.{put_at};
 ghost use Rattle.watch_words.specs.Layout.{watch_length, watch_in, watch_laid};

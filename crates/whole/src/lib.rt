@@ -1,1 +1,2 @@
 // The claim about whole runs: definitions and their proof, no code.
+#![tactic(auto)]
