@@ -1,17 +1,14 @@
 -- The calls' definitions, case by case.
-use mathlib.Core.Path.{◌≡◌, ap, ◌∙◌}
-use Prim.Native.Nat.{ℕ, ◌+◌, ◌*◌, ◌≤◌, ◌<◌}
+use mathlib.Core.Path.{◌≡◌, ap}
+use Prim.Native.Nat.{ℕ, ◌+◌, ◌≤◌, ◌<◌}
 use native.Mathlib.Omega.{arith}
 use mathlib.Core.List.{List, ◌++◌}
 use mathlib.Core.Bool.{true, false}
-use lib.ListN.{length, drop, get_or, length-map}
+use lib.ListN.{length, drop, get_or}
 use borrow.Author.Tests.{le-leb, lt-leb}
 use Rattle.reuse.specs.Limits.{max_reads, max_extents}
 use Rattle.reuse.specs.Lists.{firsts}
-use Rattle.reuse.specs.Summary.{summary_of, well_formed, reads_of, joined_first, joined_recent, joined_counts, join_of}
-use Rattle.reuse.proofs.Formed.{formed, joined_length}
-use Rattle.reuse.proofs.Words.{length-words}
-use Rattle.reuse.proofs.Counts.{length_from}
+use Rattle.reuse.specs.Summary.{summary_of, well_formed, reads_of, joined_first, join_of}
 use Rattle.summary_calls.specs.declared.Written.TheVariants.{Words}
 use Rattle.summary_calls.specs.Calls.{wrote, join_call, trace_call, refused}
 use Rattle.reuse_rows.specs.Rows.{put_at}

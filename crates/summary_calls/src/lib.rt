@@ -1,5 +1,6 @@
 // What each call on summaries answers: the answers' types, the definitions behind the calls, and their laws.
 #![tactic(auto)]
+
 // What a call that writes words answers: how many stand at the front of the lent buffer, or the refusal's number.
 #[derive(Drop)]
 pub enum Written {
