@@ -15,7 +15,7 @@ use Rattle.texts.specs.Lines.{got, refused, unless, line_done, byte, feed_by, fi
 use Rattle.texts.specs.Plans.{Plan, seg, join, last, join_text, form_text, parts_text, text_of, depth, parts_depth, reads, parts_reads}
 use Rattle.texts.specs.PlanTexts.{line_of, add_parts, put, line_by, plan_step, plan_feed, plan_lines, plan_of}
 use Rattle.reuse.specs.Lists.{mem, remove, firsts}
-use Rattle.texts.specs.Logs.{log_text, reads_text, row_of, over_read, row_by, log_row, head_by, log_step, step_by, log_feed, feed, finish, log_of}
+use Rattle.texts.specs.Logs.{log_text, reads_text, row_of, over_read, row_by, head_by, step_by, log_feed, feed, finish, log_of}
 
 -- the paper's plan
 abbrev paper_plan : Plan
