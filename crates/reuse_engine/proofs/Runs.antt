@@ -10,7 +10,7 @@ use lib.Seq.{take-suc, take_all, length-take-le}
 use Rattle.reuse_engine.specs.declared.Place.{Place}
 use Rattle.reuse_engine.specs.declared.Place.TheVariants.{Cold, Depth, Full, BadCount}
 use Rattle.reuse.specs.Lists.{mem, distinct}
-use Rattle.reuse.specs.Lru.{at, depth, touch, reuses}
+use Rattle.reuse.specs.Lru.{depth, touch, reuses}
 use Rattle.reuse_engine.specs.Engine.{place_of, lifted, left_by}
 use Rattle.reuse.proofs.Stack.{reuses-append, distinct_from, length-new}
 use Rattle.reuse.proofs.Newcomers.{stack-grows}
