@@ -1,5 +1,5 @@
 -- What the steps of entering one customer stand on, and what they leave.
-use Rattle.std.specs.Prelude.{ℕ, suc, ◌+◌, ◌-◌, ◌*◌, ◌%◌, ◌^◌, ◌<◌, ◌≤◌, min, List, map, length, drop, slice_index, slice_index_or}
+use Rattle.std.specs.Prelude.{ℕ, suc, ◌+◌, ◌-◌, ◌*◌, ◌%◌, ◌^◌, ◌<◌, ◌≤◌, min, List, map, length, drop, slice_index}
 use Rattle.reuse.specs.Limits.{max_extents, max_store}
 use Rattle.reuse.specs.Lists.{from}
 use Rattle.reuse_rows.specs.Rows.{put_at}
@@ -8,7 +8,7 @@ use Rattle.split_rows.specs.Rows.{rooms}
 
 -- words with F, R and H, as many as v says
 pub record Whole (w : List ℕ) : Type 0 where
-  pub few : slice_index_or w 1 0 ≤ max_extents
+  pub few : slice_index w 1 ≤ max_extents
   pub long : 2 + 3 * slice_index w 1 ≤ length w
 
 -- the sum of place i of one row and the place as far before `left` of another, in a word of 32 bits
