@@ -1,7 +1,8 @@
 // The right-hand sums of a session: ways from a slot up to the root, and the marks worked out from the root down. The nodes
-#![tactic(auto)]
 // of the tree are numbered: the slots first, then the branching points, the lowest level first, the root last. The children
 // of point p are the nodes 2p and 2p + 1, so the way up from node n comes to point n / 2.
+#![tactic(auto)]
+
 ghost use Rattle.std.specs.Prelude.{◌≡◌, ◌+◌, ◌-◌, ◌++◌, take, drop};
 ghost use Rattle.reuse.specs.Limits.{levels};
 ghost use Rattle.session_sums.specs.Sums.{first_marks};

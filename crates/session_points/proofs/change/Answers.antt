@@ -1,0 +1,40 @@
+-- `session_points::change` meets its contract. The invariant is `Changing`, how far up the change has come.
+use Rattle.std.proofs.Common.{sym, arith}
+use Rattle.session_points.proofs.Changing.{change-past, changing-start, changing-turn, changing-end}
+use Rattle.session_points.proofs.change.Goals as goal
+use Rattle.session_points.proofs.change.Goals.{else-node-ne0, then-node-ne0}
+
+pub returns-then-s-ge-SLOTS : goal.returns-then-s-ge-SLOTS
+returns-then-s-ge-SLOTS c = sym (change-past _ _ _ c.if-s-ge-SLOTS.true)
+
+pub loop-node-init : goal.loop-node-init
+loop-node-init c = changing-start _ _ _ c.if-s-ge-SLOTS.false
+
+pub offset_bounds-rights-node : goal.offset_bounds-rights-node
+offset_bounds-rights-node c = omega arith
+
+pub bounds-rights-node : goal.bounds-rights-node
+bounds-rights-node c = omega arith
+
+pub offset_bounds-rights-node-then-node-ne0 : goal.offset_bounds-rights-node-then-node-ne0
+offset_bounds-rights-node-then-node-ne0 c = omega arith
+
+pub bounds-rights-node-then-node-ne0 : goal.bounds-rights-node-then-node-ne0
+bounds-rights-node-then-node-ne0 c = omega arith
+
+pub overflow_add-node : goal.overflow_add-node
+overflow_add-node c = omega arith
+
+pub loop-node-smaller : goal.loop-node-smaller
+loop-node-smaller c = omega arith
+
+pub loop-node-preserved : goal.loop-node-preserved
+loop-node-preserved c =
+    let t = changing-turn _ _ _ _ _ c.loop-node.invariant (omega arith) in
+    elim c.if-node-ne0.branch [
+      | then-node-ne0 w ↦ rw (w.rights-is, w.wrapping_add_u32.ensures.value) (t.0 w.if-node-ne0.true)
+      | else-node-ne0 w ↦ rw w.rights-is (t.1 w.if-node-ne0.false)
+    ]
+
+pub returns : goal.returns
+returns c = changing-end _ _ _ _ _ c.loop-node.invariant (omega arith)
