@@ -1,16 +1,13 @@
 -- A row, and the words of another that do not stand in it: a turn of the loop that puts them.
-use mathlib.Core.Path.{◌≡◌, refl, sym, ap, ◌∙◌}
-use Prim.Native.Nat.{ℕ, suc, ◌+◌, ◌-◌, ◌≤◌, ◌<◌}
+use mathlib.Core.Path.{◌≡◌, sym, ap, ◌∙◌}
+use Prim.Native.Nat.{ℕ, ◌+◌, ◌≤◌, ◌<◌}
 use native.Mathlib.Omega.{arith}
-use mathlib.Core.List.{List, [], ◌∷◌, ◌++◌, append_assoc}
+use mathlib.Core.List.{List, [], ◌∷◌, ◌++◌}
 use mathlib.Core.Bool.{true, false}
-use lib.Dec.{leb}
-use lib.ListN.{length, take, drop, get_or, set, replicate, drop_of_length-le, length-set, length-append, length-drop, length-take, length-replicate}
-use lib.Seq.{take_all, take_at, drop_at, drop-drop, take-append-le, length-take-le}
-use borrow.Author.Tests.{leb-true, leb-false}
+use lib.ListN.{length, take, drop, get_or, set, drop_of_length-le, length-set}
+use lib.Seq.{take_all, take_at}
 use Rattle.reuse.specs.Limits.{max_extents}
 use Rattle.reuse.specs.Lists.{mem, outside, beside}
-use Rattle.reuse.proofs.Lists.{by-test}
 use Rattle.reuse_rows.specs.Rows.{put_at, padded}
 use Rattle.reuse_rows.proofs.Slices.{next_word}
 use Rattle.reuse_copies.proofs.Puts.{put-none, put-cons}

@@ -1,0 +1,27 @@
+-- `reuse_tables::beyond` meets its contract.
+use mathlib.Core.Path.{ap, ◌∙◌}
+use Prim.Native.Nat.{◌≤◌}
+use native.Mathlib.Omega.{arith}
+use lib.ListN.{length, drop_of_length-le}
+use Rattle.reuse.specs.Limits.{max_extents}
+use Rattle.reuse.specs.Lists.{mem}
+use Rattle.reuse_rows.proofs.Slices.{part-rest}
+use Rattle.reuse_tables.proofs.beyond.Goals as goal
+
+pub returns-then-words-le-MAX_EXTENTS : goal.returns-then-words-le-MAX_EXTENTS
+unfolding mem
+returns-then-words-le-MAX_EXTENTS c =
+    let s = c.args.words.now in
+    let l : length s ≤ max_extents = omega arith in
+    rw (drop_of_length-le s {i = max_extents} l)
+
+-- part-contains-start : tie.Need-slice-bounds-contains-start
+-- part-contains-start c = search rules
+
+-- part-contains-end : tie.Need-slice-bounds-contains-end
+-- part-contains-end c = search rules
+
+pub returns : goal.returns
+returns c =
+    let a = c.args in
+    c.contains.ensures ∙ ap (mem a.x) (part-rest a.words.now max_extents)
