@@ -1,0 +1,79 @@
+-- `session_marks::find` meets its contract. The invariant: the search that goes on below i comes to what the whole search does.
+use mathlib.Core.Path.{◌≡◌, sym, ap, ◌∙◌}
+use Prim.Native.Nat.{ℕ, ◌-◌}
+use native.Mathlib.Omega.{arith}
+use lib.Dec.{eqb}
+use borrow.Author.Tests.{eq-eqb, ne_eqb}
+use Rattle.reuse.specs.Limits.{levels}
+use Rattle.session_rights.specs.Rights.{marks_from}
+use Rattle.session_points.proofs.Marking.{mark-worked}
+use Rattle.session_marks.specs.Marks.{holds}
+use Rattle.session_marks.proofs.Search.{holds-other, holds-some, holds-zero, search-hit, search-miss, search-none, found-pair, found-other, found-short, found-past}
+use Rattle.session_marks.proofs.find.Goals as goal
+use Rattle.session_marks.proofs.find.Goals.{After-mark_at}
+
+-- where the slot holds 0, its mark worked out tells
+tested : (c : After-mark_at)
+    → let l = c.loop-i in
+    let a = c.args in
+    holds a.slots.now (marks_from levels a.count a.rights.now) a.x (l.i - 1) ≡ eqb c.mark_at.result 1
+tested c =
+    let l = c.loop-i in
+    let a = c.args in
+    holds-zero a.slots.now (marks_from levels a.count a.rights.now) a.x (l.i - 1) c.if-slots-i.true c.if-x-ne0.false
+    ∙ ap (λ (n : ℕ). eqb n 1) (sym (c.mark_at.ensures ∙ mark-worked _ _ _ l.invariant.1 (omega arith)))
+
+pub returns-then-slots-ne-SLOTS : goal.returns-then-slots-ne-SLOTS
+returns-then-slots-ne-SLOTS c = sym (found-other _ _ _ _ _ c.if-slots-ne-SLOTS.true)
+
+pub returns-then-rights-ne-RIGHTS : goal.returns-then-rights-ne-RIGHTS
+returns-then-rights-ne-RIGHTS c = sym (found-short _ _ _ _ _ c.if-rights-ne-RIGHTS.true)
+
+pub returns-then-next-gt-SLOTS : goal.returns-then-next-gt-SLOTS
+returns-then-next-gt-SLOTS c = sym (found-past _ _ _ _ _ c.if-next-gt-SLOTS.true)
+
+pub loop-i-init : goal.loop-i-init
+loop-i-init c = (c.if-slots-ne-SLOTS.false, c.if-rights-ne-RIGHTS.false, sym (found-pair _ _ _ _ _ c.if-slots-ne-SLOTS.false c.if-rights-ne-RIGHTS.false c.if-next-gt-SLOTS.false), omega arith)
+
+pub overflow_sub-i : goal.overflow_sub-i
+overflow_sub-i c = omega arith
+
+pub overflow_add-looked : goal.overflow_add-looked
+overflow_add-looked c = omega arith
+
+pub offset_bounds-slots-i : goal.offset_bounds-slots-i
+offset_bounds-slots-i c = omega arith
+
+pub bounds-slots-i : goal.bounds-slots-i
+bounds-slots-i c = omega arith
+
+pub returns-then-x-ne0 : goal.returns-then-x-ne0
+returns-then-x-ne0 c =
+    let l = c.loop-i in
+    let a = c.args in
+    sym (search-hit _ l.i l.looked (omega arith) (holds-some a.slots.now (marks_from levels a.count a.rights.now) a.x (l.i - 1) c.if-slots-i.true c.if-x-ne0.true)) ∙ l.invariant.2
+
+pub returns-then-mark_at-eq1 : goal.returns-then-mark_at-eq1
+returns-then-mark_at-eq1 c =
+    let l = c.loop-i in
+    sym (search-hit _ l.i l.looked (omega arith) (tested (goal.at.returns-then-mark_at-eq1 c).After-mark_at ∙ eq-eqb _ 1 c.if-mark_at-eq1.true)) ∙ l.invariant.2
+
+pub loop-i-smaller-else-mark_at-eq1 : goal.loop-i-smaller-else-mark_at-eq1
+loop-i-smaller-else-mark_at-eq1 c = omega arith
+
+pub loop-i-preserved-else-mark_at-eq1 : goal.loop-i-preserved-else-mark_at-eq1
+loop-i-preserved-else-mark_at-eq1 c =
+    let l = c.loop-i in
+    (l.invariant.0, l.invariant.1, sym (search-miss _ l.i l.looked (omega arith) (tested (goal.at.loop-i-preserved-else-mark_at-eq1 c).After-mark_at ∙ ne_eqb _ 1 c.if-mark_at-eq1.false)) ∙ l.invariant.2, omega arith)
+
+pub loop-i-smaller : goal.loop-i-smaller
+loop-i-smaller c = omega arith
+
+pub loop-i-preserved : goal.loop-i-preserved
+loop-i-preserved c =
+    let l = c.loop-i in
+    let a = c.args in
+    (l.invariant.0, l.invariant.1, sym (search-miss _ l.i l.looked (omega arith) (holds-other a.slots.now (marks_from levels a.count a.rights.now) a.x (l.i - 1) c.if-slots-i.false)) ∙ l.invariant.2, omega arith)
+
+pub returns : goal.returns
+returns c = let l = c.loop-i in sym (search-none _ l.i l.looked (omega arith)) ∙ l.invariant.2

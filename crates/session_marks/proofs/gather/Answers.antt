@@ -1,0 +1,52 @@
+-- `session_marks::gather` meets its contract. The invariant is `Moved`.
+use mathlib.Core.Path.{sym, ◌∙◌}
+use native.Mathlib.Omega.{arith}
+use Rattle.reuse.specs.Limits.{slot_count}
+use Rattle.session_marks.proofs.Search.{pair-wide}
+use Rattle.session_marks.proofs.Passes.{moved-start, moved-some, moved_none, moved-end, gathered-pair, gathered-other}
+use Rattle.session_marks.proofs.gather.Goals as goal
+use Rattle.session_marks.proofs.gather.Goals.{else-marks-i-eq1, then-marks-i-eq1}
+
+pub returns-then-not-paired : goal.returns-then-not-paired
+returns-then-not-paired c = sym (gathered-other _ _ (sym c.paired.ensures ∙ c.if-not-paired.true))
+
+pub loop-i-init : goal.loop-i-init
+loop-i-init c = let w = pair-wide _ _ (sym c.paired.ensures ∙ c.if-not-paired.false) in moved-start slot_count _ _ (omega arith) w.0
+
+pub offset_bounds-marks-i : goal.offset_bounds-marks-i
+offset_bounds-marks-i c = omega arith
+
+pub bounds-marks-i : goal.bounds-marks-i
+bounds-marks-i c = omega arith
+
+pub offset_bounds-slots-i : goal.offset_bounds-slots-i
+offset_bounds-slots-i c = omega arith
+
+pub bounds-slots-i : goal.bounds-slots-i
+bounds-slots-i c = omega arith
+
+pub offset_bounds-out-n : goal.offset_bounds-out-n
+offset_bounds-out-n c = omega arith
+
+pub bounds-out-n : goal.bounds-out-n
+bounds-out-n c = omega arith
+
+pub overflow_add-n : goal.overflow_add-n
+overflow_add-n c = omega arith
+
+pub overflow_add-i : goal.overflow_add-i
+overflow_add-i c = omega arith
+
+pub loop-i-smaller : goal.loop-i-smaller
+loop-i-smaller c = omega arith
+
+pub loop-i-preserved : goal.loop-i-preserved
+loop-i-preserved c =
+    let b = c.loop-i.invariant in
+    elim c.if-marks-i-eq1.branch [
+      | then-marks-i-eq1 w ↦ rw (w.out-is, w.n-is) (moved-some _ _ _ _ _ _ b (omega arith) w.if-marks-i-eq1.true)
+      | else-marks-i-eq1 w ↦ rw (w.out-is, w.n-is) (moved_none _ _ _ _ _ _ b (omega arith) w.if-marks-i-eq1.false)
+    ]
+
+pub returns : goal.returns
+returns c = moved-end slot_count _ _ _ _ _ c.loop-i.invariant (omega arith) ∙ sym (gathered-pair _ _ (sym c.paired.ensures ∙ c.if-not-paired.false))
