@@ -1,5 +1,5 @@
 -- Where no word wraps and there is room for all the reads, what is counted are their reuse distances.
-use Rattle.std.proofs.Common.{◌≡◌, ℕ, zero, suc, ◌+◌, ◌-◌, ◌%◌, ◌^◌, ◌<◌, ◌≤◌, true, leb, List, [], ◌∷◌, length, get_or, take, drop, set, sym, refl, ap, ◌∙◌, add-one, arith, drop_of_length-le, leb-false, leb-true}
+use Rattle.std.proofs.Common.{◌≡◌, ℕ, zero, suc, ◌+◌, ◌-◌, ◌%◌, ◌^◌, ◌<◌, ◌≤◌, true, leb, List, [], ◌∷◌, length, get_or, take, drop, set, sym, refl, ap, add-one, arith, drop_of_length-le, leb-false, leb-true}
 use mathlib.Core.List.{foldl}
 use Rattle.reuse.specs.Lists.{distinct}
 use Rattle.reuse.specs.Lru.{touch, reuses}

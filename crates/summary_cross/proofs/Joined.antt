@@ -1,9 +1,8 @@
 -- H of a join, counted on the stack of A.
 use Rattle.std.proofs.Common.{◌≡◌, ℕ, suc, ◌+◌, ◌^◌, ◌<◌, ◌≤◌, eqb, List, length, get_or, take, sym, ap, ◌∙◌, arith}
-use mathlib.Core.List.{foldl}
 use Rattle.reuse.specs.Limits.{max_reads, max_extents}
 use Rattle.reuse.specs.Lists.{count}
-use Rattle.reuse.specs.Lru.{touch, reuses, count_at}
+use Rattle.reuse.specs.Lru.{reuses, count_at}
 use Rattle.reuse.specs.Summary.{reads_of, extents_of, first_of, recent_of, counts_of, count_for, joined_count}
 use Rattle.reuse.proofs.Counts.{finite, count-finite, take-from}
 use Rattle.reuse.proofs.Sums.{at-le-sum}
