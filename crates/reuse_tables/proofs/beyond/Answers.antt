@@ -15,12 +15,6 @@ returns-then-words-le-MAX_EXTENTS c =
     let l : length s ≤ max_extents = omega arith in
     rw (drop_of_length-le s {i = max_extents} l)
 
--- part-contains-start : tie.Need-slice-bounds-contains-start
--- part-contains-start c = search rules
-
--- part-contains-end : tie.Need-slice-bounds-contains-end
--- part-contains-end c = search rules
-
 pub returns : goal.returns
 returns c =
     let a = c.args in
