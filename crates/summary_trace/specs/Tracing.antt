@@ -1,5 +1,5 @@
 -- What the private calls of a trace's summary rely on and leave.
-use Rattle.std.specs.Prelude.{ℕ, suc, ◌+◌, ◌*◌, ◌≤◌, min, ◌≡◌, List, reverse, length, take, get_or}
+use Rattle.std.specs.Prelude.{ℕ, suc, ◌≤◌, min, ◌≡◌, List, reverse, length, take, get_or}
 use Rattle.reuse.specs.Limits.{max_reads, max_extents}
 use Rattle.reuse.specs.Lists.{firsts, cleanup}
 use Rattle.reuse.specs.Summary.{histogram}
