@@ -30,7 +30,8 @@ pub fn all_zero(row: &[u32]) -> bool
     let mut clear = true;
     let mut i: usize = 0;
     while i < row.len() {
-        if row[i] != 0 {
+        let other = row[i] != 0;
+        if other {
             clear = false;
         }
         i = i + 1;

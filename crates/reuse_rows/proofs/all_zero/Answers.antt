@@ -5,7 +5,7 @@ use lib.ListN.{drop_of_length-le}
 use Rattle.reuse_rows.specs.Rows.{blank}
 use Rattle.reuse_rows.proofs.Slices.{passed, failed, ended, zero-hit, zero-miss}
 use Rattle.reuse_rows.proofs.all_zero.Goals as goal
-use Rattle.reuse_rows.proofs.all_zero.Goals.{then-row-i-ne0, else-row-i-ne0}
+use Rattle.reuse_rows.proofs.all_zero.Goals.{then-other, else-other}
 
 pub loop-i-init : goal.loop-i-init
 loop-i-init c = (omega arith, refl)
@@ -17,9 +17,9 @@ pub loop-i-preserved : goal.loop-i-preserved
 loop-i-preserved c =
     let l = c.loop-i in (
       omega arith,
-      elim c.if-row-i-ne0.branch [
-        | then-row-i-ne0 w ↦ rw w.clear-is (failed l.clear l.invariant.1 (zero-miss _ l.i (omega arith) w.if-row-i-ne0.true))
-        | else-row-i-ne0 w ↦ rw w.clear-is (passed l.clear l.invariant.1 (zero-hit _ l.i (omega arith) w.if-row-i-ne0.false))
+      elim c.if-other.branch [
+        | then-other w ↦ rw w.clear-is (failed l.clear l.invariant.1 (zero-miss _ l.i (omega arith) w.if-other.true))
+        | else-other w ↦ rw w.clear-is (passed l.clear l.invariant.1 (zero-hit _ l.i (omega arith) w.if-other.false))
       ],
     )
 
