@@ -90,7 +90,7 @@ hit-on-top [] x d = inl refl
 hit-on-top (y ∷ s) x d =
     by-test (eqb x y)
     (λ e. let m : mem x s ≡ false = rw (eqb-true x y e) (distinct_head y s d) in
-    inr (simp e, rw (e, eqb-true x y e) (ap {B = List ℕ} (λ l. y ∷ l) (rw (eqb-true x y e) at (remove_absent x s m)))))
+    inr (simp e, rw (e, eqb-true x y e) (ap {B = List ℕ} (λ l. y ∷ l) (remove_absent x s m))))
     (λ e. inl (by-test (mem x s)
     (λ m. simp (e, depth-present x s m, lt-leb (suc (suc (length (before x s)))) 1 (omega arith)))
     (λ m. simp (e, depth-absent x s m))))
