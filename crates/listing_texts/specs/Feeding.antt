@@ -1,8 +1,7 @@
 -- A log text taken in pieces by tallies: what each line does, and what the end gives.
-use Rattle.std.specs.Prelude.{ℕ, List, [], ◌∷◌, Bool, cond, eqb, length}
+use Rattle.std.specs.Prelude.{ℕ, List, length}
 use Rattle.std.proofs.Math.Option.{Option, none, some}
-use Rattle.texts.specs.Words.{after}
-use Rattle.texts.specs.Lines.{Answer, to, no, Fed, at, stopped, Read, got, refused, unless, feed_by, finish_by}
+use Rattle.texts.specs.Lines.{Answer, to, no, Fed, at, stopped, Read, got, refused, feed_by, finish_by}
 use Rattle.texts.specs.Logs.{Row, Logged, empty, inside, whole, row_by, head_by, step_by, log_room}
 use Rattle.listing_texts.specs.Tallies.{Tally, no_reads, tallied, over_tally, misses_by}
 use Rattle.listing_texts.specs.Listings.{listed, refused_text}
