@@ -1,13 +1,13 @@
 -- F, R and H of a join, made apart and written one after the other.
-use mathlib.Core.Path.{◌≡◌, sym, ap, ◌∙◌}
-use Prim.Native.Nat.{ℕ, ◌+◌, ◌-◌, ◌≤◌}
+use mathlib.Core.Path.{◌≡◌, sym, ◌∙◌}
+use Prim.Native.Nat.{ℕ, ◌+◌, ◌-◌}
 use native.Mathlib.Omega.{arith}
 use mathlib.Core.List.{List, ◌++◌}
 use lib.ListN.{length, take, get_or}
 use borrow.Author.Tests.{le-leb}
 use Rattle.reuse.specs.Limits.{max_extents}
 use Rattle.reuse.specs.Lists.{firsts, beside}
-use Rattle.reuse.specs.Summary.{words, reads_of, first_of, recent_of, counts_of, joined_first, joined_recent, joined_counts, join_of}
+use Rattle.reuse.specs.Summary.{reads_of, first_of, recent_of, counts_of, joined_first, joined_recent, joined_counts, join_of}
 use Rattle.reuse.proofs.Lists.{firsts-append}
 use Rattle.reuse.proofs.Distinct.{firsts-distinct}
 use Rattle.reuse.proofs.Formed.{formed, joined_length}
