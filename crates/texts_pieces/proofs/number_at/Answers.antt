@@ -1,17 +1,18 @@
 -- `texts_pieces::number_at` meets its contract. The invariant: the number from the start goes on here after the value so far.
-use Prim.Native.Nat.{ℕ, ◌+◌, ◌-◌, ◌*◌}
+use Prim.Native.Nat.{ℕ, ◌+◌, ◌-◌, ◌*◌, ◌<◌}
 use mathlib.Core.Path.{◌≡◌, refl, sym, ap, ◌∙◌}
+use Rattle.reuse.proofs.Lists.{by-test}
 use mathlib.Core.Bool.{Bool, true, false}
 use native.Mathlib.Omega.{arith}
 use lib.Dec.{eqb}
 use lib.ListN.{drop, get_or}
-use borrow.Author.Tests.{eq-eqb, ne_eqb, lt-ltb, le-ltb}
+use borrow.Author.Tests.{eqb-true, eqb-false, eq-eqb, ne_eqb, lt-ltb, le-ltb}
 use Rattle.texts.specs.Digits.{may_go_on, ended, number_from, number_of}
 use Rattle.texts.proofs.Positions.{number-end, number-bad, number_more, number-low, number-high}
 use Rattle.texts_pieces.proofs.Pieces.{found-is, found_none}
 use borrow.Author.Rules.{rules}
 use Rattle.texts_pieces.proofs.number_at.Goals as goal
-use Rattle.texts_pieces.proofs.number_at.Goals.{Left-loop-i, then-i-at+else-v-eq0+else-v-ge1000000000, else-i-at, else-loop-i-test, then-loop-i-test+then-b-lt48, then-loop-i-test+else-b-lt48+then-b-gt57}
+use Rattle.texts_pieces.proofs.number_at.Goals.{Left-loop-i, else-loop-i-test, then-loop-i-test+then-b-lt48, then-loop-i-test+else-b-lt48+then-b-gt57}
 
 pub loop-i-init : goal.loop-i-init
 unfolding number_of
@@ -38,19 +39,19 @@ loop-i-preserved c =
     let a = c.args in
     let l = c.loop-i in
     let x = get_or a.s.now l.i 0 in
+    let small : (l.i ≡ a.at → ⊥) → l.v < 1000000000 = λ h. grind arith in
+    let some : (l.i ≡ a.at → ⊥) → l.v ≡ 0 → ⊥ = λ h. grind arith in
     let may : may_go_on (eqb l.i a.at) l.v ≡ true =
-    elim c.if-i-at.branch [
-      | then-i-at+else-v-eq0+else-v-ge1000000000 w ↦ simp (ne_eqb _ _ w.if-i-at.true, ne_eqb _ _ w.if-v-eq0.false, lt-ltb _ _ w.if-v-ge1000000000.false)
-      | else-i-at w ↦ simp (eq-eqb _ _ w.if-i-at.false)
-    ] in
+    by-test (eqb l.i a.at)
+    (λ e. simp e)
+    (λ e. simp (e, ne_eqb _ _ (some (eqb-false _ _ e)), lt-ltb _ _ (small (eqb-false _ _ e)))) in
     let d : x - 48 ≡ c.digit.result = omega (arith, c.digit.ensures) in
     let n : eqb (l.i + 1) a.at ≡ false = ne_eqb (l.i + 1) a.at (λ e. omega (arith, e, l.invariant.0)) in (
       search rules,
       (λ h. omega arith),
-      elim c.if-i-at.branch [
-        | then-i-at+else-v-eq0+else-v-ge1000000000 w ↦ omega (arith, w.if-v-ge1000000000.false)
-        | else-i-at w ↦ omega (arith, l.invariant.3 w.if-i-at.false)
-      ],
+      by-test (eqb l.i a.at)
+          (λ e. omega (arith, l.invariant.3 (eqb-true _ _ e)))
+          (λ e. omega (arith, small (eqb-false _ _ e))),
       (λ e. omega (arith, e, l.invariant.0)),
       l.invariant.4 ∙ number_more a.s.now l.i (eqb l.i a.at) l.v c.loop-i-test.true c.if-b-lt48.false c.if-b-gt57.false may
           ∙ ap (λ (k : ℕ). number_from false (l.v * 10 + k) (drop (l.i + 1) a.s.now)) d
