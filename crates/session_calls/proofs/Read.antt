@@ -1,5 +1,5 @@
 -- The laws of a read: of a sound session, and of one that has read a trace.
-use Prim.Native.Nat.{ℕ, suc, ◌+◌, ◌-◌, ◌≤◌, ◌<◌}
+use Prim.Native.Nat.{ℕ, suc, ◌-◌, ◌≤◌, ◌<◌}
 use mathlib.Core.Path.{◌≡◌, refl, sym, ap, ◌∙◌}
 use mathlib.Core.List.{List, [], ◌∷◌, ◌++◌}
 use mathlib.Core.Bool.{Bool, true, false, cond, not, ◌&&◌}
@@ -8,7 +8,7 @@ use lib.Dec.{eqb}
 use lib.ListN.{length, length-append}
 use borrow.Author.Tests.{ne_eqb, eqb-false}
 use Rattle.reuse.specs.Lists.{mem, firsts}
-use Rattle.reuse.specs.Lru.{at, depth, stack}
+use Rattle.reuse.specs.Lru.{depth, stack}
 use Rattle.reuse.specs.Limits.{max_reads, max_extents, slot_count, levels}
 use Rattle.session_calls.specs.Sessions.{FullSession, FullWide, marks, extents, stack_of, sound}
 use Rattle.session_calls.specs.Reads.{roomed, slot_of, step_at, taken, refused, too_many, read_of}

@@ -1,6 +1,6 @@
 // What a session's calls answer: the session with all sums of the tree over its slots, its reads and its summary. The session
-#![tactic(auto)]
 // of the library keeps right-hand sums alone, and is shown equal to this one.
+#![tactic(auto)]
 
 // A read's answer: cold with the number of different extents read, itself included; its distance with the number of sums
 // read; both with the number of slots looked at; or the refusal's number.

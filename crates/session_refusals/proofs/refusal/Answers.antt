@@ -1,0 +1,26 @@
+-- `session_refusals::refusal` meets its contract. Each return is one way of `refusal_of`.
+use mathlib.Core.Path.{◌≡◌, sym, ◌∙◌}
+use mathlib.Core.Bool.{true}
+use Rattle.session_soundness.specs.Soundness.{intact_rows}
+use Rattle.session_refusals.proofs.Refusals.{refusal-unsound, refusal-reads, refusal-extents, refusal-known, refusal-few}
+use Rattle.session_refusals.proofs.refusal.Goals as goal
+use Rattle.session_refusals.proofs.refusal.Goals.{Else-not-intact}
+
+-- the fields are sound
+ok : (c : Else-not-intact) → let a = c.args in intact_rows a.reads a.first.now a.hist.now a.slots.now a.count a.rights.now a.next ≡ true
+ok c = sym c.intact.ensures ∙ c.if-not-intact.false
+
+pub returns-then-not-intact : goal.returns-then-not-intact
+returns-then-not-intact c = sym (refusal-unsound _ _ _ _ _ _ _ _ (sym c.intact.ensures ∙ c.if-not-intact.true))
+
+pub returns-then-reads-eq-MAX_READS : goal.returns-then-reads-eq-MAX_READS
+returns-then-reads-eq-MAX_READS c = sym (refusal-reads _ _ _ _ _ _ _ (ok (goal.at.returns-then-reads-eq-MAX_READS c).Else-not-intact) _ c.if-reads-eq-MAX_READS.true)
+
+pub returns-then-not-contains : goal.returns-then-not-contains
+returns-then-not-contains c = sym (refusal-extents _ _ _ _ _ _ _ (ok (goal.at.returns-then-not-contains c).Else-not-intact) _ c.if-reads-eq-MAX_READS.false c.if-count-eq-MAX_EXTENTS.true (sym c.contains.ensures ∙ c.if-not-contains.true))
+
+pub returns-else-not-contains : goal.returns-else-not-contains
+returns-else-not-contains c = sym (refusal-known _ _ _ _ _ _ _ (ok (goal.at.returns-else-not-contains c).Else-not-intact) _ c.if-reads-eq-MAX_READS.false c.if-count-eq-MAX_EXTENTS.true (sym c.contains.ensures ∙ c.if-not-contains.false))
+
+pub returns-else-count-eq-MAX_EXTENTS : goal.returns-else-count-eq-MAX_EXTENTS
+returns-else-count-eq-MAX_EXTENTS c = sym (refusal-few _ _ _ _ _ _ _ (ok (goal.at.returns-else-count-eq-MAX_EXTENTS c).Else-not-intact) _ c.if-reads-eq-MAX_READS.false c.if-count-eq-MAX_EXTENTS.false)
