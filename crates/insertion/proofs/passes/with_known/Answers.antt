@@ -1,6 +1,5 @@
 -- `insertion::passes::with_known` meets its contract.
-use mathlib.Core.Path.{◌≡◌, sym, ap, ◌∙◌}
-use mathlib.Core.Logic.{⊎_elim}
+use mathlib.Core.Path.{◌≡◌, sym, ◌∙◌}
 use Prim.Native.Nat.{ℕ, ◌+◌, ◌≤◌, ◌<◌}
 use native.Mathlib.Omega.{arith}
 use mathlib.Core.Bool.{cond}
@@ -9,9 +8,8 @@ use borrow.Author.Tests.{le-leb, lt-leb, lt-ltb, le-ltb, ne_eqb}
 use Rattle.reuse.proofs.Lists.{eqb_same}
 use Rattle.insertion.specs.Passes.{with_newcomer, with_known}
 use Rattle.insertion.specs.declared.passes.Marks.{Marks}
-use borrow.Author.Rules.{rules}
-use Rattle.insertion.proofs.passes.with_known.Statement.{statement}
-use Rattle.insertion.proofs.passes.with_known.Tie as tie
+use Rattle.insertion.proofs.passes.with_known.Goals as goal
+use Rattle.insertion.proofs.passes.with_known.Goals.{then-d-size, else-d-size}
 
 -- the marks by where the extent stands
 module _ (m : Marks) (d c : ℕ) where
@@ -36,28 +34,16 @@ module _ (m : Marks) (d c : ℕ) where
   spoiled-none : (d ≡ c → ⊥) → m.spoiled ≡ m.spoiled + cond (eqb d c) 1 0
   spoiled-none e = simp (ne_eqb d c e) (omega arith)
 
-returns : tie.Need-returns
-returns c = newer _ _ _ c.if1.true
+pub returns-then-d-m : goal.returns-then-d-m
+returns-then-d-m c = newer _ _ _ c.if-d-m.true
 
-with-newcomer-requires : tie.Need-with-newcomer-requires
-with-newcomer-requires c κs = search rules
+pub returns-then-m-d : goal.returns-then-m-d
+returns-then-m-d c = c.with_newcomer.ensures ∙ below _ _ _ c.if-d-m.false c.if-m-d.true
 
-returns-2 : tie.Need-returns-2
-returns-2 c = c.with-newcomer.ensures ∙ below _ _ _ c.before.before.before.if1.false c.before.if2.true
-
-add-spoiled : tie.Need-overflow-add-spoiled
-add-spoiled c = search rules
-
-add-t6 : tie.Need-overflow-add-t6
-add-t6 c = search rules
-
-returns-3 : tie.Need-returns-3
-returns-3 c =
-    above _ _ _ c.before.before.before.before.if1.false c.before.before.if2.false _
-    (⊎_elim
-    (λ w. w.1 ∙ spoiled-one c.before.before.before.before.before.before.args.m _ _ w.0.taken)
-    (λ w. w.1 ∙ spoiled-none c.before.before.before.before.before.before.args.m _ _ w.0.left)
-    c.before.if3.branch)
-
-pub with-known-spec : {M : Type 1} → statement M
-with-known-spec = tie.close (tie.spec returns with-newcomer-requires returns-2 add-spoiled add-t6 returns-3)
+pub returns : goal.returns
+returns c =
+    above _ _ _ c.if-d-m.false c.if-m-d.false _
+    (elim c.if-d-size.branch [
+      | then-d-size w ↦ w.spoiled-is ∙ spoiled-one c.args.m _ _ w.if-d-size.true
+      | else-d-size w ↦ w.spoiled-is ∙ spoiled-none c.args.m _ _ w.if-d-size.false
+    ])
