@@ -71,7 +71,8 @@ fn stands(words: &[u32], p: u16, x: u32) -> bool
 fn beyond(words: &[u32], x: u32) -> bool
     ensures { result ≡ mem x (drop max_extents words.now) }
 {
-    if words.len() <= MAX_EXTENTS {
+    let within = words.len() <= MAX_EXTENTS;
+    if within {
         return false;
     }
     reuse_rows::contains(&words[MAX_EXTENTS..], x)
@@ -87,7 +88,8 @@ pub fn all_distinct(words: &[u32]) -> bool
         let x = words[i];
         let h = bucket(x);
         if seen[h] != 0 {
-            if reuse_rows::contains(&words[..i], x) {
+            let twice = reuse_rows::contains(&words[..i], x);
+            if twice {
                 return false;
             }
         }
@@ -105,7 +107,8 @@ pub fn all_in(words: &[u32], among: &[u32]) -> bool
     note(among, &mut table);
     let mut i: usize = 0;
     while i < words.len() {
-        if !known(among, &table, words[i]) {
+        let stranger = !known(among, &table, words[i]);
+        if stranger {
             return false;
         }
         i = i + 1;

@@ -4,7 +4,7 @@ use native.Mathlib.Omega.{arith}
 use lib.Seq.{length-take-le}
 use Rattle.reuse_tables.proofs.Lookups.{apart-start, apart-free, apart-turn, apart-not, apart-end}
 use Rattle.reuse_tables.proofs.all_distinct.Goals as goal
-use Rattle.reuse_tables.proofs.all_distinct.Goals.{then-seen-h-ne0+else-contains, else-seen-h-ne0}
+use Rattle.reuse_tables.proofs.all_distinct.Goals.{then-seen-h-ne0+else-twice, else-seen-h-ne0}
 
 pub loop-i-init : goal.loop-i-init
 loop-i-init c = apart-start _ _ refl
@@ -12,10 +12,10 @@ loop-i-init c = apart-start _ _ refl
 pub slice_bounds-contains-end : goal.slice_bounds-contains-end
 slice_bounds-contains-end c = sym (length-take-le _ _ (omega arith))
 
-pub returns-then-contains : goal.returns-then-contains
-returns-then-contains c =
+pub returns-then-twice : goal.returns-then-twice
+returns-then-twice c =
     apart-not _ _ _ c.loop-i.invariant (omega arith)
-    (sym c.contains.ensures ∙ c.if-contains.true)
+    (sym c.contains-twice.ensures ∙ c.if-twice.true)
 
 pub loop-i-preserved : goal.loop-i-preserved
 loop-i-preserved c =
@@ -24,7 +24,7 @@ loop-i-preserved c =
     rw e
     (apart-turn _ _ _ h (omega arith)
     (elim c.if-seen-h-ne0.branch [
-      | then-seen-h-ne0+else-contains w ↦ sym w.contains.ensures ∙ w.if-contains.false
+      | then-seen-h-ne0+else-twice w ↦ sym w.contains-twice.ensures ∙ w.if-twice.false
       | else-seen-h-ne0 w ↦ apart-free _ _ _ h (rw e at w.if-seen-h-ne0.false)
     ]))
 

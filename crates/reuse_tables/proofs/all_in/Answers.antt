@@ -7,15 +7,15 @@ use Rattle.reuse_tables.proofs.all_in.Goals as goal
 pub loop-i-init : goal.loop-i-init
 loop-i-init c = among-start _ _
 
-pub returns-then-not-known : goal.returns-then-not-known
-returns-then-not-known c =
+pub returns-then-stranger : goal.returns-then-stranger
+returns-then-stranger c =
     among-not _ _ _ c.loop-i.invariant (omega arith)
-    (sym (c.known.ensures ∙ looked-up _ _ _ c.note.ensures) ∙ c.if-not-known.true)
+    (sym (c.known-stranger.ensures ∙ looked-up _ _ _ c.note.ensures) ∙ c.if-stranger.true)
 
 pub loop-i-preserved : goal.loop-i-preserved
 loop-i-preserved c =
     among-turn _ _ _ c.loop-i.invariant (omega arith)
-    (sym (c.known.ensures ∙ looked-up _ _ _ c.note.ensures) ∙ c.if-not-known.false)
+    (sym (c.known-stranger.ensures ∙ looked-up _ _ _ c.note.ensures) ∙ c.if-stranger.false)
 
 pub returns : goal.returns
 returns c = among-end _ _ _ c.loop-i.invariant (omega arith)

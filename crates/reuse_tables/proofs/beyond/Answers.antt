@@ -8,9 +8,9 @@ use Rattle.reuse.specs.Lists.{mem}
 use Rattle.reuse_rows.proofs.Slices.{part-rest}
 use Rattle.reuse_tables.proofs.beyond.Goals as goal
 
-pub returns-then-words-le-MAX_EXTENTS : goal.returns-then-words-le-MAX_EXTENTS
+pub returns-then-within : goal.returns-then-within
 unfolding mem
-returns-then-words-le-MAX_EXTENTS c =
+returns-then-within c =
     let s = c.args.words.now in
     let l : length s ≤ max_extents = omega arith in
     rw (drop_of_length-le s {i = max_extents} l)
