@@ -13,7 +13,8 @@ pub fn well_formed(words: &[u32]) -> bool
     }
     let reads = words[0];
     let v = words[1] as usize;
-    if reuse::MAX_EXTENTS < v {
+    let many = reuse::MAX_EXTENTS < v;
+    if many {
         return false;
     }
     if words.len() != 2 + 3 * v {

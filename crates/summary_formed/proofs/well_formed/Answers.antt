@@ -23,8 +23,8 @@ returns-then-words-lt2 c = refuse _ (λ h. omega (arith, (shaped c.args.words.no
 pub overflow_cast-v : goal.overflow_cast-v
 overflow_cast-v c = omega (arith, c.type_inv.words 1)
 
-pub returns-then-v-gt-MAX_EXTENTS : goal.returns-then-v-gt-MAX_EXTENTS
-returns-then-v-gt-MAX_EXTENTS c = refuse _ (λ h. omega (arith, (shaped c.args.words.now h).few))
+pub returns-then-many : goal.returns-then-many
+returns-then-many c = refuse _ (λ h. omega (arith, (shaped c.args.words.now h).few))
 
 pub returns-then-words-v : goal.returns-then-words-v
 returns-then-words-v c = refuse _ (λ h. omega (arith, (shaped c.args.words.now h).long))
@@ -46,12 +46,12 @@ returns-then-not-all_in c =
     refuse w (λ h. clash (all_in_lem (first_of w) (recent_of w) (formed w h).held) e)
 
 pub overflow_add-result : goal.overflow_add-result
-overflow_add-result c = omega (arith, c.total.ensures.1, c.if-v-gt-MAX_EXTENTS.false)
+overflow_add-result c = omega (arith, c.total.ensures.1, c.if-many.false)
 
 pub returns : goal.returns
 returns c =
     let w = c.args.words.now in
-    let s : Shaped w = record { long = omega (arith, c.if-words-v.false); few = c.if-v-gt-MAX_EXTENTS.false; short = c.if-reads-gt-MAX_READS.false } in
+    let s : Shaped w = record { long = omega (arith, c.if-words-v.false); few = c.if-many.false; short = c.if-reads-gt-MAX_READS.false } in
     let d : distinct (first_of w) ≡ true = ap distinct (sym (first_part w)) ∙ sym c.all_distinct.ensures ∙ c.if-not-all_distinct.false in
     let a : all_in (first_of w) (recent_of w) ≡ true =
     rw (sym (first_part w), sym (recent-part w)) (sym c.all_in.ensures ∙ c.if-not-all_in.false) in
