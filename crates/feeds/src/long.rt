@@ -2,9 +2,10 @@
 use crate::{pieces, report};
 use listing::Lister;
 use reuse::MAX_READS;
+use std::io;
 
 // A text of so many reads of one extent, fed line by line.
-fn of_reads(name: &[u8], reads: u32) {
+fn of_reads(rt: &impl Print, name: &[u8], reads: u32) -> io::Result<()> {
     let none = Lister::new();
     let mut lister = none.feed(b"(trace\n");
     for i in 1..reads {
@@ -13,11 +14,11 @@ fn of_reads(name: &[u8], reads: u32) {
     let whole = lister.feed(b" (read 5))\n");
     let page = whole.finish();
     let bytes = page.bytes;
-    report::output(name, pieces::part(&bytes, 0, page.len));
+    report::output(rt, name, pieces::part(&bytes, 0, page.len))
 }
 
 // Both texts at the limit.
-pub fn all() {
-    of_reads(b"1048576 reads, line by line", MAX_READS);
-    of_reads(b"1048577 reads, line by line", MAX_READS + 1);
+pub fn all(rt: &impl Print) -> io::Result<()> {
+    of_reads(rt, b"1048576 reads, line by line", MAX_READS)?;
+    of_reads(rt, b"1048577 reads, line by line", MAX_READS + 1)
 }

@@ -6,8 +6,10 @@ mod pieces;
 mod report;
 mod stored;
 
-// The stored texts, then the longest ones.
-fn main() {
-    stored::all();
-    long::all();
+use std::io;
+
+// The texts on standard input, then the longest ones.
+fn main(rt: HostRuntime) -> io::Result<()> {
+    stored::all(&rt, rt.stdin())?;
+    long::all(&rt)
 }

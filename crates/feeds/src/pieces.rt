@@ -45,7 +45,7 @@ fn gives(text: &[u8], a: usize, b: usize, wanted: &[u8]) -> bool
 {
     let page = by_three(text, a, b);
     let bytes = page.bytes;
-    check::same(part(&bytes, 0, page.len), wanted)
+    part(&bytes, 0, page.len) == wanted
 }
 
 // How many of the cuttings before byte b, and before each byte up to it whose place is a multiple of `apart`, give the

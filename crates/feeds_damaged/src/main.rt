@@ -1,10 +1,10 @@
 // Feeds listers that no text gives: each is refused 7 and comes back word for word.
 #![tactic(auto)]
 
-use libc::STDOUT_FILENO;
 use listing::{Lister, Phase};
 use listing_tally::LONGEST;
 use reuse::MAX_EXTENTS;
+use std::io;
 
 // The refusal's number of a phase, and 0 where it has none.
 fn number(phase: Phase) -> u32 {
@@ -31,7 +31,7 @@ fn row_same(a: [u32; MAX_EXTENTS], b: [u32; MAX_EXTENTS]) -> bool {
 fn same(a: Lister, b: Lister) -> bool {
     let line = a.line;
     let other = b.line;
-    if !check::same(&line, &other) {
+    if line != other {
         return false;
     }
     if a.held != b.held || a.reads != b.reads || a.extents != b.extents {
@@ -50,27 +50,27 @@ fn same(a: Lister, b: Lister) -> bool {
 }
 
 // Prints a name, and whether the words are as they were.
-fn head(name: &[u8], kept: bool) {
-    io::write_all(STDOUT_FILENO, name);
+fn head(rt: &impl Print, name: &str, kept: bool) -> io::Result<()> {
     if kept {
-        io::write_all(STDOUT_FILENO, b", word for word as it was:\n");
+        println!(rt; "{name}, word for word as it was:")
     } else {
-        io::write_all(STDOUT_FILENO, b", changed:\n");
+        println!(rt; "{name}, changed:")
     }
 }
 
 // Prints a lister's output.
-fn show(lister: Lister) {
+fn show(rt: &impl Print, lister: Lister) -> io::Result<()> {
     let page = lister.finish();
     let bytes = page.bytes;
     let n = page.len;
-    io::write_all(STDOUT_FILENO, &bytes[..n]);
+    rt.write_all(&bytes[..n])
 }
 
 // A lister with the extent 7 first in its stack, where it has one, and these words besides, is fed the end of a trace:
 // whether its words are as they were, and its output.
 fn fed(
-    name: &[u8],
+    rt: &impl Print,
+    name: &str,
     byte: u8,
     held: usize,
     phase: Phase,
@@ -78,7 +78,7 @@ fn fed(
     extents: usize,
     second: u32,
     count: u32,
-) {
+) -> io::Result<()> {
     let mut line = [0u8; LONGEST];
     line[0] = byte;
     let mut stack = [0u32; MAX_EXTENTS];
@@ -98,18 +98,29 @@ fn fed(
         counts,
     };
     let after = before.feed(b" (read 7))\n");
-    head(name, same(before, after));
-    show(after);
+    head(rt, name, same(before, after))?;
+    show(rt, after)
 }
 
 // One that a text gives, and then one for each kind of damage.
-fn main() {
+fn main(rt: HostRuntime) -> io::Result<()> {
     let inside = Phase::Inside;
-    fed(b"inside", 0, 0, inside, 1, 1, 0, 0);
-    fed(b"refused 3", 0, 0, Phase::Stopped(3), 0, 0, 0, 0);
-    fed(b"refused with reads", 0, 0, Phase::Stopped(1), 1, 1, 0, 0);
+    fed(&rt, "inside", 0, 0, inside, 1, 1, 0, 0)?;
+    fed(&rt, "refused 3", 0, 0, Phase::Stopped(3), 0, 0, 0, 0)?;
     fed(
-        b"reads before the first line",
+        &rt,
+        "refused with reads",
+        0,
+        0,
+        Phase::Stopped(1),
+        1,
+        1,
+        0,
+        0,
+    )?;
+    fed(
+        &rt,
+        "reads before the first line",
         0,
         0,
         Phase::Empty,
@@ -117,13 +128,13 @@ fn main() {
         1,
         0,
         0,
-    );
-    fed(b"byte 10 held", 10, 1, inside, 1, 1, 0, 0);
-    fed(b"20 bytes held", 0, 20, inside, 1, 1, 0, 0);
-    fed(b"a byte past those held", 65, 0, inside, 1, 1, 0, 0);
-    fed(b"1,025 extents", 0, 0, inside, 1025, 1025, 0, 0);
-    fed(b"an extent twice", 0, 0, inside, 2, 2, 7, 0);
-    fed(b"a read not counted", 0, 0, inside, 2, 1, 0, 0);
-    fed(b"a word past the stack", 0, 0, inside, 1, 1, 9, 0);
-    fed(b"a word past the counts", 0, 0, inside, 1, 1, 0, 9);
+    )?;
+    fed(&rt, "byte 10 held", 10, 1, inside, 1, 1, 0, 0)?;
+    fed(&rt, "20 bytes held", 0, 20, inside, 1, 1, 0, 0)?;
+    fed(&rt, "a byte past those held", 65, 0, inside, 1, 1, 0, 0)?;
+    fed(&rt, "1,025 extents", 0, 0, inside, 1025, 1025, 0, 0)?;
+    fed(&rt, "an extent twice", 0, 0, inside, 2, 2, 7, 0)?;
+    fed(&rt, "a read not counted", 0, 0, inside, 2, 1, 0, 0)?;
+    fed(&rt, "a word past the stack", 0, 0, inside, 1, 1, 9, 0)?;
+    fed(&rt, "a word past the counts", 0, 0, inside, 1, 1, 0, 9)
 }

@@ -1,8 +1,9 @@
 // Lists a log text: standard input is the log text, standard output its listing or its refusal.
 #![tactic(auto)]
 
-use libc::{STDIN_FILENO, STDOUT_FILENO};
 use listing::Lister;
+use std::io;
+use std::io::{Read, Write};
 
 // A lister after one read of standard input, and whether it takes more: something came, and the text is not refused.
 #[derive(Drop)]
@@ -12,35 +13,33 @@ struct Step {
 }
 
 // Reads once and feeds what came.
-fn turn(lister: Lister) -> Step {
-    let mut buf = io::large_buffer();
-    let got = libc::read(STDIN_FILENO, &mut buf);
-    if got <= 0 {
-        return Step {
+fn turn<R: Read>(input: &mut R, lister: Lister) -> io::Result<Step> {
+    let mut buf = [0u8; 65536];
+    let n = input.read(&mut buf)?;
+    if n == 0 {
+        return Ok(Step {
             lister,
             more: false,
-        };
+        });
     }
-    let n = io::count(got, &buf);
     let next = lister.feed(&buf[..n]);
     let more = next.takes_more();
-    Step { lister: next, more }
+    Ok(Step { lister: next, more })
 }
 
 // Feeds standard input up to its end or to the first faulty line, then writes the page.
-fn main() {
+fn main(rt: HostRuntime) -> io::Result<()> {
+    let mut input = rt.stdin();
     let mut lister = Lister::new();
-    let mut turns = u64::MAX;
-    while turns > 0 {
-        let t = turn(lister);
+    for _ in 0..u64::MAX {
+        let t = turn(&mut input, lister)?;
         lister = t.lister;
-        turns -= 1;
         if !t.more {
-            turns = 0;
+            break;
         }
     }
     let page = lister.finish();
     let bytes = page.bytes;
     let n = page.len;
-    io::write_all(STDOUT_FILENO, &bytes[..n]);
+    rt.stdout().write_all(&bytes[..n])
 }
