@@ -1,8 +1,8 @@
 /* A first program: two parts of a log summarized and joined, the distances of each part after what was read before it,
  * the misses of every cache size, the smallest cache for a number of them, what one more read does to them, the same
  * summary by a joining plan, the listing of a log text, a session read by read, returns to a named moment, and refusals.
- * Built and run from the root of the repository, once `rt staticlib capi` has built the library:
- *   gcc -Wall -Wextra -Iinclude -o target/first examples/first.c target/staticlib/libcapi.a && target/first
+ * Built and run from the root of the repository, once `tools/archive` has built the library:
+ *   gcc -Wall -Wextra -Iinclude -o target/first examples/first.c target/libcapi.a && target/first
  * It prints what examples/first.txt has. */
 #include <inttypes.h>
 #include <stdio.h>
