@@ -41,7 +41,8 @@ pub fn one_more(trace: &[u32], place: usize, extent: u32, size: u32) -> Insertio
     let held = passes::hold(&mut stack, traced.held, &trace[next..reads]);
     let known = ahead < before;
     let again = next < reads;
-    if reuse::MAX_EXTENTS < passes::extents_with(held, known, again) {
+    let over = reuse::MAX_EXTENTS < passes::extents_with(held, known, again);
+    if over {
         return InsertionAnswer::Refused(9);
     }
     InsertionAnswer::Change(passes::change(known, again, ahead + 1, traced.marks, size as usize))

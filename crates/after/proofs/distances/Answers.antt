@@ -12,7 +12,7 @@ use Rattle.reuse.proofs.Traces.{extents-within, extents-over}
 use Rattle.summary_calls.proofs.Fields.{shaped, first_part}
 use Rattle.after.proofs.Calls.{front, traceable, refused-words, refused-reads, refused-extents, refused-room, traced}
 use Rattle.after.proofs.distances.Goals as goal
-use Rattle.after.proofs.distances.Goals.{Else-extents-gt-MAX_EXTENTS, Else-not-well_formed}
+use Rattle.after.proofs.distances.Goals.{Else-not-well_formed}
 
 -- the prefix is well formed
 pass : (c : Else-not-well_formed) → well_formed c.args.prefix.now ≡ true
@@ -24,8 +24,9 @@ counted : (prefix reads : List ℕ) (r : ℕ) → r ≡ min (length (firsts (tak
 counted prefix reads r e = e ∙ ap (λ (f : List ℕ). min (length (firsts (f ++ reads))) (suc max_extents)) (first_part prefix)
 
 -- no more extents than the limit would result
-few : (c : Else-extents-gt-MAX_EXTENTS) → length (firsts (first_of c.args.prefix.now ++ c.args.reads.now)) ≤ max_extents
-few c = extents-within _ _ (counted c.args.prefix.now c.args.reads.now _ c.extents_with-extents.ensures) (omega arith)
+few : (prefix reads : List ℕ) (r : ℕ) → r ≡ min (length (firsts (take (2 + get_or prefix 1 0 - 2) (drop 2 prefix) ++ reads))) (suc max_extents) → r ≤ max_extents
+    → length (firsts (first_of prefix ++ reads)) ≤ max_extents
+few prefix reads r e l = extents-within _ _ (counted prefix reads r e) l
 
 pub returns-then-not-well_formed : goal.returns-then-not-well_formed
 returns-then-not-well_formed c = rw (refused-words _ _ _ (sym c.well_formed-2.ensures ∙ c.if-not-well_formed.true)) (refl, refl)
@@ -59,17 +60,17 @@ returns-then-extents-gt-MAX_EXTENTS c =
 pub returns-then-out-reads : goal.returns-then-out-reads
 returns-then-out-reads c =
     let g = c.args in
-    rw (refused-room g.prefix.now g.reads.now g.out.now (pass (goal.at.returns-then-out-reads c).Else-not-well_formed) c.if-left-reads.false (few (goal.at.returns-then-out-reads c).Else-extents-gt-MAX_EXTENTS) c.if-out-reads.true) (refl, refl)
+    rw (refused-room g.prefix.now g.reads.now g.out.now (pass (goal.at.returns-then-out-reads c).Else-not-well_formed) c.if-left-reads.false (few g.prefix.now g.reads.now _ c.extents_with-extents.ensures (omega arith)) c.if-out-reads.true) (refl, refl)
 
 pub recent_stack-stack-requires : goal.recent_stack-stack-requires
 recent_stack-stack-requires c = shaped _ (pass (goal.at.recent_stack-stack-requires c).Else-not-well_formed)
 
 pub trace-requires : goal.trace-requires
-trace-requires c = traceable _ (pass (goal.at.trace-requires c).Else-not-well_formed) _ c.recent_stack-stack.ensures _ _ (few (goal.at.trace-requires c).Else-extents-gt-MAX_EXTENTS) c.if-out-reads.false
+trace-requires c = traceable _ (pass (goal.at.trace-requires c).Else-not-well_formed) _ c.recent_stack-stack.ensures _ _ (few c.args.prefix.now c.args.reads.now _ c.extents_with-extents.ensures (omega arith)) c.if-out-reads.false
 
 pub returns : goal.returns
 returns c =
     let g = c.args in
     let f = front _ (pass (goal.at.returns c).Else-not-well_formed) _ c.recent_stack-stack.ensures in
-    rw (traced g.prefix.now g.reads.now g.out.now (pass (goal.at.returns c).Else-not-well_formed) c.if-left-reads.false (few (goal.at.returns c).Else-extents-gt-MAX_EXTENTS) c.if-out-reads.false)
+    rw (traced g.prefix.now g.reads.now g.out.now (pass (goal.at.returns c).Else-not-well_formed) c.if-left-reads.false (few g.prefix.now g.reads.now _ c.extents_with-extents.ensures (omega arith)) c.if-out-reads.false)
     (refl, rw f at c.trace.ensures)

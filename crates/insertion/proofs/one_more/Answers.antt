@@ -40,9 +40,9 @@ pub hold-held-requires : goal.hold-held-requires
 hold-held-requires c =
     far-ready c.args.trace.now _ c.if-reads-place.false (omega (arith, c.if-reads.false)) _ c.args.size c.if-reads.false _ _ _ c.hold-before.ensures c.if-before-gt-MAX_EXTENTS.false _ c.ahead-ahead.ensures _ _ c.follow-traced.ensures c.if-traced-gt-MAX_EXTENTS.false
 
-pub returns-then-extents_with-gt-MAX_EXTENTS : goal.returns-then-extents_with-gt-MAX_EXTENTS
-returns-then-extents_with-gt-MAX_EXTENTS c =
-    third-over c.args.trace.now _ c.if-reads-place.false (omega (arith, c.if-reads.false)) _ c.args.size c.if-reads.false _ _ _ c.hold-before.ensures c.if-before-gt-MAX_EXTENTS.false _ c.ahead-ahead.ensures _ _ c.follow-traced.ensures c.if-traced-gt-MAX_EXTENTS.false _ _ c.hold-held.ensures (rw c.extents_with.ensures at c.if-extents_with-gt-MAX_EXTENTS.true)
+pub returns-then-over : goal.returns-then-over
+returns-then-over c =
+    third-over c.args.trace.now _ c.if-reads-place.false (omega (arith, c.if-reads.false)) _ c.args.size c.if-reads.false _ _ _ c.hold-before.ensures c.if-before-gt-MAX_EXTENTS.false _ c.ahead-ahead.ensures _ _ c.follow-traced.ensures c.if-traced-gt-MAX_EXTENTS.false _ _ c.hold-held.ensures (rw c.extents_with-over.ensures at c.if-over.true)
 
 pub overflow_add-ahead : goal.overflow_add-ahead
 overflow_add-ahead c =
@@ -51,4 +51,4 @@ overflow_add-ahead c =
 pub returns : goal.returns
 returns c =
     ap Change (to_z-of_z w64 c.change.result (record { sfits = c.change.type_inv }) ∙ c.change.ensures)
-    ∙ change-told c.args.trace.now _ c.if-reads-place.false (omega (arith, c.if-reads.false)) _ c.args.size c.if-reads.false _ _ _ c.hold-before.ensures c.if-before-gt-MAX_EXTENTS.false _ c.ahead-ahead.ensures _ _ c.follow-traced.ensures c.if-traced-gt-MAX_EXTENTS.false _ _ c.hold-held.ensures (rw c.extents_with.ensures at c.if-extents_with-gt-MAX_EXTENTS.false)
+    ∙ change-told c.args.trace.now _ c.if-reads-place.false (omega (arith, c.if-reads.false)) _ c.args.size c.if-reads.false _ _ _ c.hold-before.ensures c.if-before-gt-MAX_EXTENTS.false _ c.ahead-ahead.ensures _ _ c.follow-traced.ensures c.if-traced-gt-MAX_EXTENTS.false _ _ c.hold-held.ensures (rw c.extents_with-over.ensures at c.if-over.false)
