@@ -1,5 +1,5 @@
 -- The slots that a read looks at: of every sound session, and of one that has read a trace; they are those of the session with all sums.
-use Prim.Native.Nat.{ℕ, ◌-◌}
+use Prim.Native.Nat.{ℕ}
 use mathlib.Core.Path.{◌≡◌, ap, ◌∙◌}
 use mathlib.Core.List.{List, [], ◌∷◌, ◌++◌}
 use mathlib.Core.Bool.{true, false}
@@ -15,7 +15,7 @@ use Rattle.session.specs.declared.Step.{Step}
 use Rattle.session.specs.Sessions.{Wide, new_of, marks, old_of, sound}
 use Rattle.session.specs.Reads.{roomed, read_of}
 use Rattle.session_traces.specs.Looks.{Look, Looks}
-use Rattle.session_calls.proofs.Read.{read-stands as Stands-on}
+use Rattle.session_calls.proofs.Read.{read-stands as stands-on}
 use Rattle.session_calls.proofs.Looks as old
 use Rattle.session.proofs.Corresponds.{sound-facts, old-sound, new-marks, read-new}
 use Rattle.session_traces.proofs.Stands.{Stands, old-room, old-roomed}
@@ -52,7 +52,7 @@ module _ (s : Session) (t : List ℕ) (g : Stands s t) (x : ℕ) (short : eqb (l
   pub read_again : eqb (length (t ++ (x ∷ []))) max_reads ≡ false → slots_looked (read_of (read_of s x).session x).answer ≡ 1
   read_again more =
       let o = (full-reads.read_of (old_of s) x).session in
-      let h = Stands-on (old_of s) t g.full-stands x short few in
+      let h = stands-on (old_of s) t g.full-stands x short few in
       let after : (read_of s x).session ≡ new_of o = ap (λ (r : Step). r.session) (read-old s g.wide g.is-sound x) in
       rw after
       (ap (λ (r : Step). slots_looked r.answer) (read-new o h.wide h.is-sound x)

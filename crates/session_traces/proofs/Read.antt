@@ -17,7 +17,7 @@ use Rattle.session_calls.specs.Sessions.{FullSession}
 use Rattle.session_calls.specs.Reads as full-reads
 use Rattle.session.specs.declared.Session.{Session}
 use Rattle.session.specs.declared.Step.{Step}
-use Rattle.session.specs.Sessions.{Wide, old_of, stack_of, sound}
+use Rattle.session.specs.Sessions.{Wide, old_of, sound}
 use Rattle.session.specs.Reads.{new_step, roomed, slot_of, step_at, refused, read_of}
 use Rattle.session_traces.specs.Walks.{total_at, Walks}
 use Rattle.session_rights.proofs.Trees.{left-count, same_total}
