@@ -17,7 +17,7 @@ use session_calls::Answer;
 const ONE_LESS: u32 = 4294967295;
 
 // L, the count of the marks and the next slot; F and H, the slots, and the right-hand sums over their marks.
-#[derive(Drop)]
+#[derive(Clone, Copy)]
 pub struct Session {
     pub reads: u32,
     pub count: u32,
