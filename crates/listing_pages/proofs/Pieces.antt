@@ -13,7 +13,6 @@ use Rattle.listing_texts.proofs.RowLaws.{row_at, rows-cons}
 use Rattle.listing_rows.specs.Laying.{Laid, laid_at, lay, lay_all, named_pieces, row_pieces}
 use Rattle.listing_rows.proofs.Laying.{all_fit, laid-front}
 use Rattle.listing_pages.specs.Texts.{rows_pieces, listing_pieces, refused_pieces, blank_page, page_of}
-use Rattle.listing_pages.specs.declared.Page.{Page}
 
 -- the pieces of a row, and others after them
 row-joins : (c n k : ℕ) (pieces : List (List ℕ)) → end_to_end (row_pieces c n k ++ pieces) ≡ row_at c n k ++ end_to_end pieces
