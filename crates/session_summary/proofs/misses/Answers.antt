@@ -1,0 +1,43 @@
+-- `session_summary::misses` meets its contract. The reads less the hits are the misses.
+use mathlib.Core.Path.{◌≡◌, sym, ap, ◌∙◌}
+use mathlib.Core.Bool.{true}
+use Prim.Native.Nat.{◌-◌}
+use native.Mathlib.Omega.{arith}
+use Rattle.reuse.specs.Summary.{misses_of}
+use Rattle.summary_calls.specs.declared.MissCount.TheVariants.{Misses}
+use Rattle.session.specs.Sessions.{Wide, old_of, sound}
+use Rattle.session_summary.specs.Summaries.{session_words, misses_call}
+use Rattle.session_calls.proofs.Summaries.{hits-reads, hits_few}
+use Rattle.session_summary.proofs.Summaries.{rows, misses-given}
+use borrow.Author.Rules.{rules}
+use Rattle.session_summary.proofs.misses.Goals as goal
+use Rattle.session_summary.proofs.misses.Goals.{Else-not-sound, Start}
+
+-- the widths of the session's arrays
+wide : (c : Start) → Wide c.args.s
+wide c = record { first-wide = search rules; hist-wide = search rules; slots-wide = search rules; rights-wide = search rules }
+
+-- the session is sound
+ok : (c : Else-not-sound) → sound c.args.s ≡ true
+ok c = sym c.sound.ensures ∙ c.if-not-sound.false
+
+pub returns-then-not-sound : goal.returns-then-not-sound
+unfolding misses_call
+returns-then-not-sound c = sym (simp (sym c.sound.ensures ∙ c.if-not-sound.true))
+
+pub hits-requires : goal.hits-requires
+hits-requires c = ok c
+
+pub overflow_sub-result : goal.overflow_sub-result
+overflow_sub-result c =
+    let b = goal.at.overflow_sub-result c in
+    omega (arith, hits_few (old_of c.args.s) (rows c.args.s (wide b.Start) (ok b.Else-not-sound)) _ _ c.hits.ensures)
+
+pub returns : goal.returns
+returns c =
+    let b = goal.at.returns c in
+    let s = c.args.s in
+    let w = wide b.Start in
+    let o = ok b.Else-not-sound in
+    let n : misses_of (session_words s) c.args.size ≡ s.reads - c.hits.result = omega (arith, c.hits.ensures, hits-reads (old_of s) (rows s w o) c.args.size) in
+    sym (misses-given s w o c.args.size ∙ ap Misses n)
