@@ -8,7 +8,7 @@ use session_calls::Answer;
 use summary::{MissCount, ShareAnswer};
 
 // The size watched, and the counts.
-#[derive(Drop)]
+#[derive(Clone, Copy)]
 pub struct Watch {
     pub size: u32,
     pub reads: u32,
@@ -24,7 +24,7 @@ pub enum Reading {
 }
 
 // What an update answers: the read was counted, or the refusal's number.
-#[derive(Drop)]
+#[derive(Clone, Copy)]
 pub enum Outcome {
     Counted,
     Refused(u32),
@@ -66,7 +66,8 @@ pub fn sound(w: Watch) -> bool
     if reuse::MAX_READS < reads {
         return false;
     }
-    if reads < cold {
+    let wanting = reads < cold;
+    if wanting {
         return false;
     }
     hits <= reads - cold
@@ -78,7 +79,8 @@ fn counted(w: Watch, cold: u32, hits: u32) -> Change
     ensures { result ≡ counted_by w cold hits }
 {
     let reads = w.reads;
-    if reads == reuse::MAX_READS {
+    let full = reads == reuse::MAX_READS;
+    if full {
         return Change {
             watch: w,
             outcome: Outcome::Refused(8),
@@ -116,7 +118,8 @@ pub fn noted(w: Watch, reading: Reading) -> Change
 fn in_range(d: u32) -> bool
     ensures { result ≡ in_range d }
 {
-    if d < 1 {
+    let zero = d < 1;
+    if zero {
         return false;
     }
     d as usize <= reuse::MAX_EXTENTS
@@ -133,7 +136,8 @@ fn at_distance(w: Watch, d: u32) -> Change
             outcome: Outcome::Refused(2),
         };
     }
-    if d <= w.size {
+    let hit = d <= w.size;
+    if hit {
         return counted(w, 0, 1);
     }
     counted(w, 0, 0)

@@ -1,0 +1,18 @@
+-- `watch::share` meets its contract.
+use mathlib.Core.Path.{sym, ap, ◌∙◌}
+use native.Mathlib.Omega.{arith}
+use Rattle.summary_calls.specs.declared.ShareAnswer.TheVariants.{Answered}
+use Rattle.watch.specs.Watching.{share_call}
+use Rattle.watch.proofs.Soundness.{sound-watch}
+use Rattle.watch.proofs.share.Goals as goal
+
+pub returns-then-not-sound : goal.returns-then-not-sound
+unfolding share_call
+returns-then-not-sound c = sym (simp (sym c.sound.ensures ∙ c.if-not-sound.true))
+
+pub overflow_sub-servable : goal.overflow_sub-servable
+overflow_sub-servable c = omega (arith, (sound-watch _ (sym c.sound.ensures ∙ c.if-not-sound.false)).fits)
+
+pub returns : goal.returns
+unfolding share_call
+returns c = sym (simp (sym c.sound.ensures ∙ c.if-not-sound.false) (ap Answered (sym c.share_of.ensures)))
