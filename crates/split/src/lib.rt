@@ -1,6 +1,7 @@
 // One store split among customers: the shares with the fewest misses in all, of these the smallest total, then the smallest
-#![tactic(auto)]
 // first share, the second, and so on.
+#![tactic(auto)]
+
 mod search;
 
 ghost use Rattle.std.specs.Prelude.{◌≡◌};
