@@ -17,7 +17,8 @@ pub fn smallest(words: &[u32], misses: u32) -> SizeAnswer
         return SizeAnswer::Refused(5);
     }
     let cold = words[1];
-    if misses < cold {
+    let below = misses < cold;
+    if below {
         return SizeAnswer::Refused(12);
     }
     let v = cold as usize;
