@@ -5,7 +5,7 @@ use Rattle.reuse.specs.Lists.{distinct, sum}
 use Rattle.reuse.proofs.Lists.{by-test}
 use Rattle.texts.specs.Words.{after}
 use Rattle.texts.specs.Logs.{Row, row, bad_row, row_of, trace_word, longest_line, row_by, head_by, step_by}
-use Rattle.listing_texts.specs.Feeding.{take_row, take_head, take_line}
+use Rattle.listing_texts.specs.Feeding.{take_row, take_head}
 use Rattle.listing_lines.specs.Forms.{row_found, head_found}
 use Rattle.listing_tally.specs.declared.Phase.{Phase}
 use Rattle.listing_tally.specs.declared.Phase.TheVariants.{Empty, Inside, Whole, Stopped}
