@@ -11,7 +11,8 @@ use reuse::MAX_EXTENTS;
 pub fn holds_line(line: [u8; LONGEST], held: usize) -> bool
     ensures { result ≡ holds_line line held }
 {
-    if LONGEST < held {
+    let over = LONGEST < held;
+    if over {
         return false;
     }
     if texts_pieces::line_length(&line, 0, held) != held {
@@ -33,7 +34,8 @@ pub fn holds_tally(
     if MAX_EXTENTS < extents {
         return false;
     }
-    if reuse::MAX_READS < reads {
+    let many = reuse::MAX_READS < reads;
+    if many {
         return false;
     }
     if !reuse_tables::all_distinct(&stack[..extents]) {
@@ -58,7 +60,8 @@ fn refuses_text(n: u32) -> bool
     if n == 2 {
         return true;
     }
-    if n == 8 {
+    let reads_past = n == 8;
+    if reads_past {
         return true;
     }
     n == 9
