@@ -32,7 +32,8 @@ pub struct Returned {
 pub fn is_name(name: u32) -> bool
     ensures { result ≡ is_name name }
 {
-    if name < 1 {
+    let low = name < 1;
+    if low {
         return false;
     }
     name <= reuse::MAX_NAMES
@@ -80,7 +81,8 @@ pub fn name_session(s: Session, names: &mut [u32], name: u32) -> MomentAnswer
     if !named {
         return MomentAnswer::Refused(2);
     }
-    if !ok {
+    let unsound = !ok;
+    if unsound {
         return MomentAnswer::Refused(7);
     }
     let start = place_start(name);
@@ -100,13 +102,15 @@ pub fn return_to(s: Session, names: &[u32], name: u32) -> Returned
 {
     let known = is_name(name);
     let set = is_set(names, name);
-    if !known {
+    let none = !known;
+    let unset = !set;
+    if none {
         return Returned {
             session: s,
             answer: MomentAnswer::Refused(2),
         };
     }
-    if !set {
+    if unset {
         return Returned {
             session: s,
             answer: MomentAnswer::Refused(11),
@@ -117,7 +121,8 @@ pub fn return_to(s: Session, names: &[u32], name: u32) -> Returned
     let end = start + PLACE;
     let kept = session_layout::session_in(&names[from..end]);
     let remembered = kept.session;
-    if !remembered.sound() {
+    let whole = remembered.sound();
+    if !whole {
         return Returned {
             session: s,
             answer: MomentAnswer::Refused(7),
