@@ -35,18 +35,6 @@ returns-then-next-gt-SLOTS c = sym (found-past _ _ _ _ _ c.if-next-gt-SLOTS.true
 pub loop-i-init : goal.loop-i-init
 loop-i-init c = (c.if-slots-ne-SLOTS.false, c.if-rights-ne-RIGHTS.false, sym (found-pair _ _ _ _ _ c.if-slots-ne-SLOTS.false c.if-rights-ne-RIGHTS.false c.if-next-gt-SLOTS.false), omega arith)
 
-pub overflow_sub-i : goal.overflow_sub-i
-overflow_sub-i c = omega arith
-
-pub overflow_add-looked : goal.overflow_add-looked
-overflow_add-looked c = omega arith
-
-pub offset_bounds-slots-i : goal.offset_bounds-slots-i
-offset_bounds-slots-i c = omega arith
-
-pub bounds-slots-i : goal.bounds-slots-i
-bounds-slots-i c = omega arith
-
 pub returns-then-x-ne0 : goal.returns-then-x-ne0
 returns-then-x-ne0 c =
     let l = c.loop-i in
@@ -58,16 +46,10 @@ returns-then-mark_at-eq1 c =
     let l = c.loop-i in
     sym (search-hit _ l.i l.looked (omega arith) (tested (goal.at.returns-then-mark_at-eq1 c).After-mark_at ∙ eq-eqb _ 1 c.if-mark_at-eq1.true)) ∙ l.invariant.2
 
-pub loop-i-smaller-else-mark_at-eq1 : goal.loop-i-smaller-else-mark_at-eq1
-loop-i-smaller-else-mark_at-eq1 c = omega arith
-
 pub loop-i-preserved-else-mark_at-eq1 : goal.loop-i-preserved-else-mark_at-eq1
 loop-i-preserved-else-mark_at-eq1 c =
     let l = c.loop-i in
     (l.invariant.0, l.invariant.1, sym (search-miss _ l.i l.looked (omega arith) (tested (goal.at.loop-i-preserved-else-mark_at-eq1 c).After-mark_at ∙ ne_eqb _ 1 c.if-mark_at-eq1.false)) ∙ l.invariant.2, omega arith)
-
-pub loop-i-smaller : goal.loop-i-smaller
-loop-i-smaller c = omega arith
 
 pub loop-i-preserved : goal.loop-i-preserved
 loop-i-preserved c =

@@ -13,33 +13,6 @@ returns-then-not-paired c = sym (gathered-other _ _ (sym c.paired.ensures ∙ c.
 pub loop-i-init : goal.loop-i-init
 loop-i-init c = let w = pair-wide _ _ (sym c.paired.ensures ∙ c.if-not-paired.false) in moved-start slot_count _ _ (omega arith) w.0
 
-pub offset_bounds-marks-i : goal.offset_bounds-marks-i
-offset_bounds-marks-i c = omega arith
-
-pub bounds-marks-i : goal.bounds-marks-i
-bounds-marks-i c = omega arith
-
-pub offset_bounds-slots-i : goal.offset_bounds-slots-i
-offset_bounds-slots-i c = omega arith
-
-pub bounds-slots-i : goal.bounds-slots-i
-bounds-slots-i c = omega arith
-
-pub offset_bounds-out-n : goal.offset_bounds-out-n
-offset_bounds-out-n c = omega arith
-
-pub bounds-out-n : goal.bounds-out-n
-bounds-out-n c = omega arith
-
-pub overflow_add-n : goal.overflow_add-n
-overflow_add-n c = omega arith
-
-pub overflow_add-i : goal.overflow_add-i
-overflow_add-i c = omega arith
-
-pub loop-i-smaller : goal.loop-i-smaller
-loop-i-smaller c = omega arith
-
 pub loop-i-preserved : goal.loop-i-preserved
 loop-i-preserved c =
     let b = c.loop-i.invariant in

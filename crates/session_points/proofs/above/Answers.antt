@@ -14,12 +14,6 @@ returns-then-s-ge-SLOTS c = sym (walked_none _ _ (slot-past _ _ c.if-s-ge-SLOTS.
 pub loop-node-init : goal.loop-node-init
 loop-node-init c = up_start levels slot_count _ _ refl (omega arith)
 
-pub offset_bounds-rights-node : goal.offset_bounds-rights-node
-offset_bounds-rights-node c = omega arith
-
-pub bounds-rights-node : goal.bounds-rights-node
-bounds-rights-node c = omega arith
-
 pub overflow_cast-total : goal.overflow_cast-total
 overflow_cast-total c = omega (arith, c.type_inv.rights (c.loop-node.node / 2))
 
@@ -32,12 +26,6 @@ pub overflow_add-count : goal.overflow_add-count
 overflow_add-count c =
     let l = c.loop-node in
     omega (arith, l.invariant.noughts, left-few levels 0 c.args.s)
-
-pub overflow_add-node : goal.overflow_add-node
-overflow_add-node c = omega arith
-
-pub loop-node-smaller : goal.loop-node-smaller
-loop-node-smaller c = omega arith
 
 pub loop-node-preserved : goal.loop-node-preserved
 loop-node-preserved c =

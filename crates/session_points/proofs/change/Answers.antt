@@ -10,24 +10,6 @@ returns-then-s-ge-SLOTS c = sym (change-past _ _ _ c.if-s-ge-SLOTS.true)
 pub loop-node-init : goal.loop-node-init
 loop-node-init c = changing-start _ _ _ c.if-s-ge-SLOTS.false
 
-pub offset_bounds-rights-node : goal.offset_bounds-rights-node
-offset_bounds-rights-node c = omega arith
-
-pub bounds-rights-node : goal.bounds-rights-node
-bounds-rights-node c = omega arith
-
-pub offset_bounds-rights-node-then-node-ne0 : goal.offset_bounds-rights-node-then-node-ne0
-offset_bounds-rights-node-then-node-ne0 c = omega arith
-
-pub bounds-rights-node-then-node-ne0 : goal.bounds-rights-node-then-node-ne0
-bounds-rights-node-then-node-ne0 c = omega arith
-
-pub overflow_add-node : goal.overflow_add-node
-overflow_add-node c = omega arith
-
-pub loop-node-smaller : goal.loop-node-smaller
-loop-node-smaller c = omega arith
-
 pub loop-node-preserved : goal.loop-node-preserved
 loop-node-preserved c =
     let t = changing-turn _ _ _ _ _ c.loop-node.invariant (omega arith) in

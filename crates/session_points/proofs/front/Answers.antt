@@ -7,12 +7,6 @@ use Rattle.session_points.proofs.front.Goals.{else-n-gt-SLOTS, then-n-gt-SLOTS}
 pub loop-i-init : goal.loop-i-init
 loop-i-init c = (elim c.if-n-gt-SLOTS.branch [ then-n-gt-SLOTS w ↦ omega arith | else-n-gt-SLOTS w ↦ omega arith ], omega arith, front-start)
 
-pub overflow_add-i : goal.overflow_add-i
-overflow_add-i c = omega arith
-
-pub loop-i-smaller : goal.loop-i-smaller
-loop-i-smaller c = omega arith
-
 pub loop-i-preserved : goal.loop-i-preserved
 loop-i-preserved c = let l = c.loop-i in (l.invariant.0, omega arith, c.change.ensures ∙ front-turn _ (omega arith) _ l.invariant.2)
 

@@ -13,12 +13,6 @@ returns-then-s-ge-SLOTS c = sym (mark-none _ _ _ (slot-past _ _ c.if-s-ge-SLOTS.
 pub loop-node-init : goal.loop-node-init
 loop-node-init c = marking-start _ _ _ c.if-rights-ne-RIGHTS.false c.if-s-ge-SLOTS.false
 
-pub offset_bounds-rights-node : goal.offset_bounds-rights-node
-offset_bounds-rights-node c = omega arith
-
-pub bounds-rights-node : goal.bounds-rights-node
-bounds-rights-node c = omega arith
-
 pub returns-then-node-eq1 : goal.returns-then-node-eq1
 returns-then-node-eq1 c = c.remaining.ensures ∙ (marking-turn _ _ _ _ _ _ c.loop-node.invariant (omega arith)).0 c.if-node-eq1.true
 
@@ -29,12 +23,6 @@ pub overflow_add-less : goal.overflow_add-less
 overflow_add-less c =
     let l = c.loop-node in
     omega (arith, c.type_inv.rights (l.node / 2), marking-fits _ _ _ _ _ _ l.invariant (omega arith))
-
-pub overflow_add-node : goal.overflow_add-node
-overflow_add-node c = omega arith
-
-pub loop-node-smaller : goal.loop-node-smaller
-loop-node-smaller c = omega arith
 
 pub loop-node-preserved : goal.loop-node-preserved
 loop-node-preserved c =

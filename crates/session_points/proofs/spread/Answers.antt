@@ -12,9 +12,6 @@ small c = omega (arith, c.loop-i.invariant.low, c.requires.half)
 pub loop-i-init : goal.loop-i-init
 loop-i-init c = let p = c.requires in spread-start _ _ _ (omega (arith, p.room, p.half)) p.each
 
-pub overflow_sub-i : goal.overflow_sub-i
-overflow_sub-i c = omega arith
-
 pub offset_bounds-marks-i : goal.offset_bounds-marks-i
 offset_bounds-marks-i c = omega (arith, small c)
 
@@ -27,32 +24,14 @@ offset_bounds-rights-i c = omega (arith, small (goal.at.offset_bounds-rights-i c
 pub bounds-rights-i : goal.bounds-rights-i
 bounds-rights-i c = let b = c.loop-i.invariant in omega (arith, b.each, b.low)
 
-pub overflow_mul-marks : goal.overflow_mul-marks
-overflow_mul-marks c = omega arith
-
-pub overflow_add-marks : goal.overflow_add-marks
-overflow_add-marks c = omega arith
-
-pub offset_bounds-marks-i-in-loop-i : goal.offset_bounds-marks-i-in-loop-i
-offset_bounds-marks-i-in-loop-i c = omega arith
-
 pub bounds-marks-i-in-loop-i : goal.bounds-marks-i-in-loop-i
 bounds-marks-i-in-loop-i c = let b = c.loop-i.invariant in omega (arith, b.wide, b.room, b.low)
 
 pub overflow_cast-sum : goal.overflow_cast-sum
 overflow_cast-sum c = omega (arith, c.type_inv.rights (c.loop-i.i - 1))
 
-pub overflow_mul-marks-in-loop-i : goal.overflow_mul-marks-in-loop-i
-overflow_mul-marks-in-loop-i c = omega arith
-
-pub offset_bounds-marks-i-in-loop-i-2 : goal.offset_bounds-marks-i-in-loop-i-2
-offset_bounds-marks-i-in-loop-i-2 c = omega arith
-
 pub bounds-marks-i-in-loop-i-2 : goal.bounds-marks-i-in-loop-i-2
 bounds-marks-i-in-loop-i-2 c = let b = c.loop-i.invariant in simp length-set (omega (arith, b.wide, b.room, b.low))
-
-pub loop-i-smaller : goal.loop-i-smaller
-loop-i-smaller c = omega arith
 
 pub loop-i-preserved : goal.loop-i-preserved
 loop-i-preserved c =
