@@ -180,7 +180,7 @@ module _ (bytes : List ℕ) (pos : ℕ) (line : List ℕ) (held : ℕ) (phase : 
       line-done =
           ap (λ (v : State). unnumbered (take_piece v (drop pos bytes))) before-is
           ∙ ended here.0 (take held line) (drop pos bytes) (omega (arith, held-long, g.fits)) rest (drop (suc (pos + n)) bytes) all-is no_end (omega (arith, held-long, rest-long))
-          ∙ ap (λ (a : Answer Taken). unnumbered (take_piece (state_by a []) (drop (suc (pos + n)) bytes))) (sym (line_taken.0 ∙ ap (λ (a : Answer Taken). and_then a (take held line ++ rest)) here.1))
+          ∙ ap (λ (a : Answer Taken). unnumbered (take_piece (state_by a []) (drop (suc (pos + n)) bytes))) (sym (line_taken_lem.0 ∙ ap (λ (a : Answer Taken). and_then a (take held line ++ rest)) here.1))
 
       -- the text is refused
       turn_stopped : is_stopped p.phase ≡ true → Turned bytes pos before (record { at = length bytes; line = line; held = 0; phase = p.phase; reads = p.reads; extents = p.extents }) stack' counts'
@@ -192,7 +192,7 @@ module _ (bytes : List ℕ) (pos : ℕ) (line : List ℕ) (held : ℕ) (phase : 
             inside = omega arith;
             wide = g.wide;
             fits = omega arith;
-            tally = line_taken.1;
+            tally = line_taken_lem.1;
             goes = λ y. absurd (omega (arith, y));
             same = line-done ∙ ap unnumbered (f (drop (suc (pos + n)) bytes) ∙ sym (f (drop (length bytes) bytes)));
           }
@@ -206,7 +206,7 @@ module _ (bytes : List ℕ) (pos : ℕ) (line : List ℕ) (held : ℕ) (phase : 
             inside = omega arith;
             wide = g.wide;
             fits = omega arith;
-            tally = line_taken.1;
+            tally = line_taken_lem.1;
             goes = λ y. z;
             same = line-done ∙ ap (λ (k : ℕ). unnumbered (take_piece (state_by (taken_in p stack' counts') []) (drop k bytes))) i;
           }
