@@ -1,20 +1,14 @@
 -- A piece fed to a lister: before the first line, after each turn, and at the end of the piece.
-use mathlib.Core.Path.{◌≡◌, refl, sym, ap, ◌∙◌}
-use Prim.Native.Nat.{ℕ, ◌+◌, ◌≤◌, ◌<◌}
+use mathlib.Core.Path.{◌≡◌, sym, ap, ◌∙◌}
+use Prim.Native.Nat.{ℕ, ◌≤◌, ◌<◌}
 use native.Mathlib.Omega.{arith}
 use mathlib.Core.List.{List}
-use mathlib.Core.Bool.{true, false}
+use mathlib.Core.Bool.{false}
 use lib.ListN.{length, take, drop}
-use borrow.Author.Tests.{le-leb, eq-eqb}
-use Rattle.reuse.specs.Limits.{max_reads, max_extents}
-use Rattle.reuse.specs.Lists.{sum}
-use Rattle.reuse.proofs.Lists.{by-test}
-use Rattle.texts.specs.Lines.{stopped}
 use Rattle.texts.specs.Logs.{longest_line}
-use Rattle.texts.proofs.Tests.{never}
 use Rattle.texts.proofs.Positions.{gone}
 use Rattle.listing_texts.specs.Feeding.{State, take_piece, unnumbered}
-use Rattle.listing_texts.proofs.Unnumbered.{take_none, stay, unnumbered-same}
+use Rattle.listing_texts.proofs.Unnumbered.{take_none, unnumbered-same}
 use Rattle.listing_tally.specs.Rows.{Tallied, tally_in, taken_by}
 use Rattle.listing_turns.specs.Turns.{is_stopped, reaches, advanced}
 use Rattle.listing_turns.specs.declared.Turn.{Turn}
@@ -22,8 +16,6 @@ use Rattle.listing_turns.proofs.Turns.{state_in, Turnable, Turned, advance-turne
 use Rattle.listing.specs.Listers.{lister_of}
 use Rattle.listing.proofs.Listers.{lister-uncounted}
 use Rattle.listing_tally.specs.declared.Phase.{Phase}
-use Rattle.listing_tally.specs.declared.Phase.TheVariants.{Empty, Inside, Whole, Stopped}
-use Rattle.listing.specs.declared.Lister.{Lister}
 
 -- a piece taken as far as a place: what is left of it does from here what the whole does from the start
 pub record PieceTaken (bytes : List ℕ) (start : State) (phase : Phase) (line : List ℕ) (held reads extents : ℕ) (stack counts : List ℕ) (pos : ℕ) : Type 0 where

@@ -1,10 +1,10 @@
 -- What a log text taken so far keeps: a tally within the limits, bytes that begin a line, or the number of a refusal.
 use mathlib.Core.Path.{◌≡◌, refl, sym, ap, subst, ◌∙◌}
-use Prim.Native.Nat.{ℕ, suc, ◌+◌, ◌≤◌, ◌<◌}
+use Prim.Native.Nat.{ℕ, suc, ◌+◌, ◌≤◌}
 use native.Mathlib.Omega.{arith}
 use mathlib.Core.List.{List, [], ◌∷◌, ◌++◌}
 use mathlib.Core.Option.{Option, none, some}
-use mathlib.Core.Bool.{Bool, true, false}
+use mathlib.Core.Bool.{true, false}
 use lib.Dec.{eqb, ltb, leb}
 use lib.ListN.{length, take, length-append}
 use lib.Seq.{length-take-le}
@@ -21,8 +21,8 @@ use Rattle.texts.specs.Logs.{Row, row, bad_row, row_of, trace_word, longest_line
 use Rattle.texts.proofs.Tests.{never}
 use Rattle.texts.proofs.Feeding.{count-append, count-other, absorb, by_byte}
 use Rattle.listing_texts.specs.Tallies.{Tally, no_reads, tallied, over_tally}
-use Rattle.listing_texts.specs.Feeding.{Taken, take_row, take_head, take_line, State, take_piece, state_by}
-use Rattle.listing_tally.specs.Rows.{Tallied, tally_in, taken_by, taken_in}
+use Rattle.listing_texts.specs.Feeding.{Taken, take_row, take_head, take_line, State, take_piece}
+use Rattle.listing_tally.specs.Rows.{Tallied, tally_in, taken_by}
 use Rattle.listing_tally.specs.Standings.{line_taken}
 use Rattle.listing_tally.specs.declared.Phase.{Phase}
 use Rattle.listing_tally.specs.declared.Phase.TheVariants.{Empty, Inside, Whole, Stopped}

@@ -14,7 +14,7 @@ pub use listing_tally::Phase;
 pub use listing_texts::Verdict;
 
 // A log text taken so far: what is held of a line that has not ended, how far the text is, and the tally of its reads.
-#[derive(Drop)]
+#[derive(Clone, Copy)]
 pub struct Lister {
     pub line: [u8; listing_tally::LONGEST],
     pub held: usize,

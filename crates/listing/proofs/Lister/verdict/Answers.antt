@@ -1,0 +1,42 @@
+-- `listing::Lister::verdict` meets its contract.
+use mathlib.Core.Path.{◌≡◌, sym, ◌∙◌}
+use native.Mathlib.Omega.{arith}
+use mathlib.Core.Bool.{true}
+use lib.ListN.{length}
+use Rattle.texts.specs.Logs.{longest_line}
+use Rattle.listing.specs.Listers.{sound_lister}
+use Rattle.listing.proofs.Soundness.{sound-fits}
+use Rattle.listing.proofs.Finishing.{verdict-unsound, verdict-empty, verdict-reads, verdict-stopped, verdict-held, verdict-listed}
+use borrow.Author.Rules.{rules}
+use Rattle.listing.proofs.Lister.verdict.Goals as goal
+use Rattle.listing.proofs.Lister.verdict.Goals.{Else-not-sound, Start}
+
+-- a lister's line has its length
+line-wide : (c : Start) → length c.args.self.line ≡ longest_line
+line-wide c = search rules
+
+-- a lister that the code has found sound
+is-sound : (c : Else-not-sound) → sound_lister c.args.self ≡ true
+is-sound c = sym c.sound.ensures ∙ c.if-not-sound.false
+
+pub returns-then-not-sound : goal.returns-then-not-sound
+returns-then-not-sound c = verdict-unsound c.args.self (sym c.sound.ensures ∙ c.if-not-sound.true)
+
+pub returns-then-self-gt0 : goal.returns-then-self-gt0
+returns-then-self-gt0 c =
+    let l = c.args.self in
+    verdict-held l (is-sound (goal.at.returns-then-self-gt0 c).Else-not-sound) c.in-Whole.is c.if-self-gt0.true (omega (arith, sound-fits l (is-sound (goal.at.returns-then-self-gt0 c).Else-not-sound), line-wide (goal.at.returns-then-self-gt0 c).Start))
+
+pub returns-in-Empty : goal.returns-in-Empty
+returns-in-Empty c = verdict-empty c.args.self (is-sound (goal.at.returns-in-Empty c).Else-not-sound) c.in-Empty.is
+
+pub returns-in-Inside : goal.returns-in-Inside
+returns-in-Inside c = verdict-reads c.args.self (is-sound (goal.at.returns-in-Inside c).Else-not-sound) c.in-Inside.is
+
+pub returns-in-Stopped : goal.returns-in-Stopped
+returns-in-Stopped c =
+    verdict-stopped c.args.self (is-sound (goal.at.returns-in-Stopped c).Else-not-sound) c.in-Stopped.n c.in-Stopped.is
+
+pub returns-else-self-gt0 : goal.returns-else-self-gt0
+returns-else-self-gt0 c =
+    verdict-listed c.args.self (is-sound (goal.at.returns-else-self-gt0 c).Else-not-sound) c.in-Whole.is (omega (arith, c.if-self-gt0.false))
