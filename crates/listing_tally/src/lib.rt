@@ -83,10 +83,12 @@ fn take_read(
 ) -> Progress
     ensures { stands_at result stack.new counts.new ≡ read_taken reads extents stack.old counts.old x ends }
 {
-    if MAX_EXTENT < x {
+    let wide = MAX_EXTENT < x;
+    let full = reuse::MAX_READS <= reads;
+    if wide {
         return refused(2, reads, extents);
     }
-    if reuse::MAX_READS <= reads {
+    if full {
         return refused(8, reads, extents);
     }
     if counts.len() < stack.len() {
@@ -151,7 +153,8 @@ pub fn end_line(
     if LONGEST - held < rest.len() {
         return refused(1, reads, extents);
     }
-    if held == 0 {
+    let none = held == 0;
+    if none {
         return take_line(rest, phase, reads, extents, stack, counts);
     }
     let mut whole = line;

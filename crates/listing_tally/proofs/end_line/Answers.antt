@@ -15,8 +15,8 @@ returns-then-held-gt-LONGEST c = let a = c.args in end-long a.reads a.extents a.
 pub returns-then-held-rest : goal.returns-then-held-rest
 returns-then-held-rest c = let a = c.args in end-long a.reads a.extents a.stack.now a.counts.now a.phase a.line a.held a.rest.now (omega arith) c.refused-then-held-rest.result c.refused-then-held-rest.ensures
 
-pub returns-then-held-eq0 : goal.returns-then-held-eq0
-returns-then-held-eq0 c =
+pub returns-then-none : goal.returns-then-none
+returns-then-none c =
     let a = c.args in
     end-taken a.reads a.extents a.stack.now a.counts.now a.phase a.line a.held a.rest.now (omega arith) a.rest.now (none-held a.line a.held a.rest.now (omega arith)) _ c.take_line.ensures
 

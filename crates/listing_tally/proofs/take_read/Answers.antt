@@ -1,5 +1,5 @@
 -- `listing_tally::take_read` meets its contract.
-use Rattle.std.proofs.Common.{◌-◌, ◌<◌, ◌≤◌, length, arith}
+use Rattle.std.proofs.Common.{◌-◌, ◌<◌, ◌≤◌, length, arith, rules}
 use Rattle.listing_tally.proofs.Answers.{new-room, known-room, read-large, read-many, read_short, read-new, read_known, read-full, read-bad}
 use Rattle.listing_tally.proofs.take_read.Goals as goal
 use Rattle.listing_tally.proofs.take_read.Goals.{In-Cold, In-Depth}
@@ -18,11 +18,11 @@ place_is c =
     let t = c.touch-place in
     known-room a.reads a.extents a.stack.now a.counts.now a.x t.result t.ensures.0 (omega arith) c.in-Depth.d c.in-Depth.is
 
-pub returns-then-x-gt-MAX_EXTENT : goal.returns-then-x-gt-MAX_EXTENT
-returns-then-x-gt-MAX_EXTENT c = let a = c.args in read-large a.reads a.extents a.stack.now a.counts.now a.x a.ends c.refused.result (omega arith) c.refused.ensures
+pub returns-then-wide : goal.returns-then-wide
+returns-then-wide c = let a = c.args in read-large a.reads a.extents a.stack.now a.counts.now a.x a.ends _ (omega arith) (search rules)
 
-pub returns-then-reads-ge-MAX_READS : goal.returns-then-reads-ge-MAX_READS
-returns-then-reads-ge-MAX_READS c = let a = c.args in read-many a.reads a.extents a.stack.now a.counts.now a.x a.ends c.refused-then-reads-ge-MAX_READS.result (omega arith) (omega arith) c.refused-then-reads-ge-MAX_READS.ensures
+pub returns-then-full : goal.returns-then-full
+returns-then-full c = let a = c.args in read-many a.reads a.extents a.stack.now a.counts.now a.x a.ends _ (omega arith) (omega arith) (search rules)
 
 pub returns-then-counts-stack : goal.returns-then-counts-stack
 returns-then-counts-stack c = let a = c.args in read_short a.reads a.extents a.stack.now a.counts.now a.x a.ends c.refused-then-counts-stack.result (omega arith) (omega arith) (omega arith) c.refused-then-counts-stack.ensures
