@@ -15,7 +15,7 @@ const PLACE: usize = 1 + SESSION;
 const NAMES: usize = reuse::MAX_NAMES as usize * PLACE;
 
 // What a naming or a return answers: done, or the refusal's number.
-#[derive(Drop)]
+#[derive(Clone, Copy)]
 pub enum MomentAnswer {
     Done,
     Refused(u32),
