@@ -25,10 +25,12 @@ pub fn name_session(words: &[u32], names: &mut [u32], name: u32) -> MomentAnswer
     let named = moments::is_name(name);
     let kept = session_layout::session_in(words);
     let enough = kept.enough;
-    if !named {
+    let none = !named;
+    let short = !enough;
+    if none {
         return MomentAnswer::Refused(2);
     }
-    if !enough {
+    if short {
         return MomentAnswer::Refused(7);
     }
     let s = kept.session;
