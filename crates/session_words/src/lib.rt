@@ -10,8 +10,8 @@ use session_layout::SESSION;
 use summary_calls::{MissCount, ShareAnswer, Written};
 
 // Whether a read was accepted.
-fn accepted(a: Answer) -> bool
-    ensures { result ≡ is_read a }
+fn accepted(a: &Answer) -> bool
+    ensures { result ≡ is_read a.now }
 {
     match a {
         Answer::Cold {
@@ -50,7 +50,7 @@ pub fn read(words: &mut [u32], extent: u32) -> Answer
     let s = kept.session;
     let step = s.read(extent);
     let answer = step.answer;
-    if !accepted(answer) {
+    if !accepted(&answer) {
         return answer;
     }
     let after = step.session;
