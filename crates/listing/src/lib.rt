@@ -112,7 +112,8 @@ impl Lister {
         ensures { result ≡ takes_more self }
     {
         let phase = self.phase;
-        if listing_turns::stopped(phase) {
+        let over = listing_turns::stopped(phase);
+        if over {
             return false;
         }
         self.sound()
@@ -168,7 +169,8 @@ impl Lister {
             Phase::Inside => Verdict::Refused(1),
             Phase::Stopped(n) => Verdict::Refused(n),
             Phase::Whole => {
-                if 0 < self.held {
+                let more = 0 < self.held;
+                if more {
                     return Verdict::Refused(1);
                 }
                 Verdict::Listed

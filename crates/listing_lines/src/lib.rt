@@ -36,7 +36,8 @@ pub fn row_of(line: &[u8]) -> Row
     if texts_pieces::run_of(line, end, 41, left) != left {
         return Row::Bad;
     }
-    if left == 1 {
+    let open = left == 1;
+    if open {
         return Row::Read(extent, false);
     }
     if left == 2 {
@@ -55,10 +56,12 @@ pub fn head_of(line: &[u8]) -> Head
     if line.len() == 6 {
         return Head::Trace(false);
     }
-    if line.len() != 7 {
+    let other = line.len() != 7;
+    if other {
         return Head::Bad;
     }
-    if line[6] != 41 {
+    let unclosed = line[6] != 41;
+    if unclosed {
         return Head::Bad;
     }
     Head::Trace(true)

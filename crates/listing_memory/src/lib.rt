@@ -20,7 +20,8 @@ pub fn list(text: &[u8], out: &mut [u8]) -> Written
             let page = lister.finish();
             let len = page.len;
             let bytes = page.bytes;
-            if out.len() < len {
+            let short = out.len() < len;
+            if short {
                 return Written::Refused(6);
             }
             reuse_copies::put_bytes(out, 0, &bytes[..len]);

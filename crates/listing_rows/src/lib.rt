@@ -57,7 +57,8 @@ pub fn put_named(page: &mut [u8], at: usize, word: &[u8], n: u32) -> usize
 pub fn put_end(page: &mut [u8], at: usize, rows: usize) -> usize
     ensures { laid_at page.new result ≡ lay (laid_at page.old at) (line_end (row_closes rows)) }
 {
-    if rows == 0 {
+    let last = rows == 0;
+    if last {
         return put(page, at, b"))\n");
     }
     put(page, at, b")\n")

@@ -28,7 +28,8 @@ pub fn split(store: u32, leasts: &[u32], summaries: &[u32], shares: &mut [u32]) 
     if !split_formed::all_formed(summaries, customers) {
         return SplitAnswer::Refused(5);
     }
-    if (store as u64) < reuse_rows::total(leasts) {
+    let short = (store as u64) < reuse_rows::total(leasts);
+    if short {
         return SplitAnswer::Refused(10);
     }
     if shares.len() < customers {

@@ -17,13 +17,13 @@ returns-then-not-word_at c = head-none c.args.line.now (sym (c.if-not-word_at.tr
 pub returns-then-line-eq6 : goal.returns-then-line-eq6
 returns-then-line-eq6 c = head-open c.args.line.now (worded (goal.at.returns-then-line-eq6 c).Else-not-word_at) c.if-line-eq6.true
 
-pub returns-then-line-ne7 : goal.returns-then-line-ne7
-returns-then-line-ne7 c = head_more c.args.line.now (worded (goal.at.returns-then-line-ne7 c).Else-not-word_at) c.if-line-eq6.false c.if-line-ne7.true
+pub returns-then-other : goal.returns-then-other
+returns-then-other c = head_more c.args.line.now (worded (goal.at.returns-then-other c).Else-not-word_at) c.if-line-eq6.false c.if-other.true
 
-pub returns-then-line-ne41 : goal.returns-then-line-ne41
-returns-then-line-ne41 c =
-    head-other c.args.line.now (worded (goal.at.returns-then-line-ne41 c).Else-not-word_at) c.if-line-ne7.false c.if-line-ne41.true
+pub returns-then-unclosed : goal.returns-then-unclosed
+returns-then-unclosed c =
+    head-other c.args.line.now (worded (goal.at.returns-then-unclosed c).Else-not-word_at) c.if-other.false c.if-unclosed.true
 
 pub returns : goal.returns
 returns c =
-    head-closed c.args.line.now (worded (goal.at.returns c).Else-not-word_at) c.if-line-ne7.false c.if-line-ne41.false
+    head-closed c.args.line.now (worded (goal.at.returns c).Else-not-word_at) c.if-other.false c.if-unclosed.false

@@ -52,10 +52,10 @@ returns-then-run_of-left c =
     let at = goal.at.returns-then-run_of-left c in
     row-spoilt c.args.line.now (worded at.Else-not-word_at) c.in-Value.extent c.in-Value.end c.run_of.result (valued at.In-Value).0 c.run_of.ensures c.if-run_of-left.true
 
-pub returns-then-left-eq1 : goal.returns-then-left-eq1
-returns-then-left-eq1 c =
-    let at = goal.at.returns-then-left-eq1 c in
-    row_read c.args.line.now (worded at.Else-not-word_at) c.in-Value.extent c.in-Value.end c.run_of.result (valued at.In-Value).0 c.run_of.ensures c.if-run_of-left.false c.if-left-eq1.true
+pub returns-then-open : goal.returns-then-open
+returns-then-open c =
+    let at = goal.at.returns-then-open c in
+    row_read c.args.line.now (worded at.Else-not-word_at) c.in-Value.extent c.in-Value.end c.run_of.result (valued at.In-Value).0 c.run_of.ensures c.if-run_of-left.false c.if-open.true
 
 pub returns-then-left-eq2 : goal.returns-then-left-eq2
 returns-then-left-eq2 c =
@@ -65,4 +65,4 @@ returns-then-left-eq2 c =
 pub returns : goal.returns
 returns c =
     let at = goal.at.returns c in
-    row_more c.args.line.now (worded at.Else-not-word_at) c.in-Value.extent c.in-Value.end c.run_of.result (valued at.In-Value).0 c.run_of.ensures c.if-run_of-left.false c.if-left-eq1.false c.if-left-eq2.false
+    row_more c.args.line.now (worded at.Else-not-word_at) c.in-Value.extent c.in-Value.end c.run_of.result (valued at.In-Value).0 c.run_of.ensures c.if-run_of-left.false c.if-open.false c.if-left-eq2.false

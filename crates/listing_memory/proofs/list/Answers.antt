@@ -53,9 +53,9 @@ listed c =
     let fed : c.feed-lister.result ≡ fed_of empty_lister c.args.text.now = c.feed-lister.ensures ∙ ap (λ (l : Lister). fed_of l c.args.text.now) c.new-empty.ensures in
     sym (c.verdict-verdict.ensures ∙ ap (λ (l : Lister). verdict_at (state_of l)) fed ∙ verdict-whole c.args.text.now) ∙ c.in-Listed.is
 
-pub returns-then-out-len : goal.returns-then-out-len
-returns-then-out-len c =
-    let e = list-short c.args.out.now _ c.finish-page.result.bytes c.finish-page.result.len (listed (goal.at.returns-then-out-len c).After-finish-page) (holds (goal.at.returns-then-out-len c).After-finish-page) (printed (goal.at.returns-then-out-len c).After-finish-page) c.if-out-len.true in
+pub returns-then-short : goal.returns-then-short
+returns-then-short c =
+    let e = list-short c.args.out.now _ c.finish-page.result.bytes c.finish-page.result.len (listed (goal.at.returns-then-short c).After-finish-page) (holds (goal.at.returns-then-short c).After-finish-page) (printed (goal.at.returns-then-short c).After-finish-page) c.if-short.true in
     (sym (ap (λ (v : Wrote). v.answer) e), sym (ap (λ (v : Wrote). v.buffer) e))
 
 pub slice_bounds-bytes-end : goal.slice_bounds-bytes-end
@@ -69,12 +69,12 @@ returns-in-Refused c =
     let e = list-refused c.args.out.now c.args.text.now c.in-Refused.n (sym (judged (goal.at.returns-in-Refused c).After-verdict-verdict) ∙ c.in-Refused.is) in
     (sym (ap (λ (v : Wrote). v.answer) e), sym (ap (λ (v : Wrote). v.buffer) e))
 
-pub returns-else-out-len : goal.returns-else-out-len
-returns-else-out-len c =
+pub returns-else-short : goal.returns-else-short
+returns-else-short c =
     let o = c.args.out.now in
-    let n : length (take c.finish-page.result.len c.finish-page.result.bytes) ≡ c.finish-page.result.len = length-take-le _ _ (holds (goal.at.returns-else-out-len c).After-finish-page) in
-    let w : 0 + length (take c.finish-page.result.len c.finish-page.result.bytes) ≤ length o = omega (arith, n, c.if-out-len.false) in
-    let e = list_all o _ c.finish-page.result.bytes c.finish-page.result.len (listed (goal.at.returns-else-out-len c).After-finish-page) (holds (goal.at.returns-else-out-len c).After-finish-page) (printed (goal.at.returns-else-out-len c).After-finish-page) c.if-out-len.false in (
+    let n : length (take c.finish-page.result.len c.finish-page.result.bytes) ≡ c.finish-page.result.len = length-take-le _ _ (holds (goal.at.returns-else-short c).After-finish-page) in
+    let w : 0 + length (take c.finish-page.result.len c.finish-page.result.bytes) ≤ length o = omega (arith, n, c.if-short.false) in
+    let e = list_all o _ c.finish-page.result.bytes c.finish-page.result.len (listed (goal.at.returns-else-short c).After-finish-page) (holds (goal.at.returns-else-short c).After-finish-page) (printed (goal.at.returns-else-short c).After-finish-page) c.if-short.false in (
       sym (ap (λ (v : Wrote). v.answer) e),
-      c.put_bytes.ensures ∙ placed-fits _ 0 _ w ∙ ap (put_at o 0) (printed (goal.at.returns-else-out-len c).After-finish-page) ∙ sym (ap (λ (v : Wrote). v.buffer) e),
+      c.put_bytes.ensures ∙ placed-fits _ 0 _ w ∙ ap (put_at o 0) (printed (goal.at.returns-else-short c).After-finish-page) ∙ sym (ap (λ (v : Wrote). v.buffer) e),
     )

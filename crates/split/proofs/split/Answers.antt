@@ -38,9 +38,9 @@ pub returns-then-not-all_formed : goal.returns-then-not-all_formed
 returns-then-not-all_formed c =
     by_parts (call-summary _ _ _ _ (omega arith) (customers-fit (length c.args.leasts.now) (omega arith) (omega arith)) (sym c.all_formed.ensures ∙ c.if-not-all_formed.true))
 
-pub returns-then-store-total : goal.returns-then-store-total
-returns-then-store-total c =
-    let (s, n, f, e) = known (goal.at.returns-then-store-total c).After-total in
+pub returns-then-short : goal.returns-then-short
+returns-then-short c =
+    let (s, n, f, e) = known (goal.at.returns-then-short c).After-total in
     by_parts (call-least _ _ _ _ s n f (omega arith))
 
 pub returns-then-shares-customers : goal.returns-then-shares-customers

@@ -6,5 +6,5 @@ use Rattle.listing.proofs.Lister.takes_more.Goals as goal
 
 pub returns : goal.returns
 returns c =
-    let e : is_stopped c.args.self.phase ≡ false = sym c.stopped.ensures ∙ c.if-stopped.false in
+    let e : is_stopped c.args.self.phase ≡ false = sym c.stopped-over.ensures ∙ c.if-over.false in
     c.sound.ensures ∙ rw e

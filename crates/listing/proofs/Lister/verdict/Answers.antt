@@ -22,10 +22,10 @@ is-sound c = sym c.sound.ensures ∙ c.if-not-sound.false
 pub returns-then-not-sound : goal.returns-then-not-sound
 returns-then-not-sound c = verdict-unsound c.args.self (sym c.sound.ensures ∙ c.if-not-sound.true)
 
-pub returns-then-self-gt0 : goal.returns-then-self-gt0
-returns-then-self-gt0 c =
+pub returns-then-more : goal.returns-then-more
+returns-then-more c =
     let l = c.args.self in
-    verdict-held l (is-sound (goal.at.returns-then-self-gt0 c).Else-not-sound) c.in-Whole.is c.if-self-gt0.true (omega (arith, sound-fits l (is-sound (goal.at.returns-then-self-gt0 c).Else-not-sound), line-wide (goal.at.returns-then-self-gt0 c).Start))
+    verdict-held l (is-sound (goal.at.returns-then-more c).Else-not-sound) c.in-Whole.is c.if-more.true (omega (arith, sound-fits l (is-sound (goal.at.returns-then-more c).Else-not-sound), line-wide (goal.at.returns-then-more c).Start))
 
 pub returns-in-Empty : goal.returns-in-Empty
 returns-in-Empty c = verdict-empty c.args.self (is-sound (goal.at.returns-in-Empty c).Else-not-sound) c.in-Empty.is
@@ -37,6 +37,6 @@ pub returns-in-Stopped : goal.returns-in-Stopped
 returns-in-Stopped c =
     verdict-stopped c.args.self (is-sound (goal.at.returns-in-Stopped c).Else-not-sound) c.in-Stopped.n c.in-Stopped.is
 
-pub returns-else-self-gt0 : goal.returns-else-self-gt0
-returns-else-self-gt0 c =
-    verdict-listed c.args.self (is-sound (goal.at.returns-else-self-gt0 c).Else-not-sound) c.in-Whole.is (omega (arith, c.if-self-gt0.false))
+pub returns-else-more : goal.returns-else-more
+returns-else-more c =
+    verdict-listed c.args.self (is-sound (goal.at.returns-else-more c).Else-not-sound) c.in-Whole.is (omega (arith, c.if-more.false))
