@@ -182,7 +182,8 @@ impl Session {
         if n != 0 {
             return self.refused(n);
         }
-        if next == SLOTS {
+        let filled = next == SLOTS;
+        if filled {
             self = self.gathered();
         }
         let below = self.next as usize;

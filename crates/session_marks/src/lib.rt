@@ -43,10 +43,12 @@ pub fn find<'a>(slots: &'a [u32], count: u32, rights: &'a [u32], next: usize, x:
         i = i - 1;
         looked = looked + 1;
         if slots[i] == x {
-            if x != 0 {
+            let other = x != 0;
+            if other {
                 return Found { slot: i, looked };
             }
-            if session_points::mark_at(count, rights, i) == 1 {
+            let marked = session_points::mark_at(count, rights, i) == 1;
+            if marked {
                 return Found { slot: i, looked };
             }
         }

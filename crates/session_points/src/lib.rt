@@ -36,7 +36,8 @@ pub fn above(rights: &[u32], s: usize) -> Walked
     let mut count: u32 = 0;
     let mut node = s;
     while node < ROOT {
-        if node % 2 == 0 {
+        let left = node % 2 == 0;
+        if left {
             total = total + rights[node / 2] as u64;
             count = count + 1;
         }
@@ -58,7 +59,8 @@ pub fn change(rights: &mut [u32; RIGHTS], s: usize, c: u32)
     }
     let mut node = s;
     while node < ROOT {
-        if node % 2 != 0 {
+        let right = node % 2 != 0;
+        if right {
             rights[node / 2] = std::num::wrapping_add_u32(rights[node / 2], c);
         }
         node = SLOTS + node / 2;
@@ -128,7 +130,8 @@ fn spread(marks: &mut [u32], m: usize, rights: &[u32]) -> bool
         i = i - 1;
         let total = marks[i];
         let sum = rights[i];
-        if total < sum {
+        let over = total < sum;
+        if over {
             good = false;
         }
         marks[2 * i + 1] = sum;

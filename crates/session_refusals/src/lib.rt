@@ -23,10 +23,12 @@ pub fn refusal<'a>(
     if !session_soundness::intact(first, hist, slots, count, rights, next, reads) {
         return 7;
     }
-    if reads == MAX_READS {
+    let at_limit = reads == MAX_READS;
+    if at_limit {
         return 8;
     }
-    if count as usize == MAX_EXTENTS {
+    let full = count as usize == MAX_EXTENTS;
+    if full {
         if !reuse_rows::contains(first, x) {
             return 9;
         }

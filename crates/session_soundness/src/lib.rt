@@ -20,7 +20,8 @@ fn neat<'a>(slots: &'a [u32], marks: &'a [u32]) -> bool
         let mark = marks[i];
         let x = slots[i];
         if mark != 1 {
-            if mark != 0 {
+            let large = mark != 0;
+            if large {
                 good = false;
             } else if x != 0 {
                 good = false;

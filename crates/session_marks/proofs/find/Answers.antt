@@ -10,18 +10,18 @@ use Rattle.session_points.proofs.Marking.{mark-worked}
 use Rattle.session_marks.specs.Marks.{holds}
 use Rattle.session_marks.proofs.Search.{holds-other, holds-some, holds-zero, search-hit, search-miss, search-none, found-pair, found-other, found-short, found-past}
 use Rattle.session_marks.proofs.find.Goals as goal
-use Rattle.session_marks.proofs.find.Goals.{After-mark_at}
+use Rattle.session_marks.proofs.find.Goals.{After-mark_at-marked}
 
 -- where the slot holds 0, its mark worked out tells
-tested : (c : After-mark_at)
+tested : (c : After-mark_at-marked)
     → let l = c.loop-i in
     let a = c.args in
-    holds a.slots.now (marks_from levels a.count a.rights.now) a.x (l.i - 1) ≡ eqb c.mark_at.result 1
+    holds a.slots.now (marks_from levels a.count a.rights.now) a.x (l.i - 1) ≡ eqb c.mark_at-marked.result 1
 tested c =
     let l = c.loop-i in
     let a = c.args in
-    holds-zero a.slots.now (marks_from levels a.count a.rights.now) a.x (l.i - 1) c.if-slots-i.true c.if-x-ne0.false
-    ∙ ap (λ (n : ℕ). eqb n 1) (sym (c.mark_at.ensures ∙ mark-worked _ _ _ l.invariant.1 (omega arith)))
+    holds-zero a.slots.now (marks_from levels a.count a.rights.now) a.x (l.i - 1) c.if-slots-i.true c.if-other.false
+    ∙ ap (λ (n : ℕ). eqb n 1) (sym (c.mark_at-marked.ensures ∙ mark-worked _ _ _ l.invariant.1 (omega arith)))
 
 pub returns-then-slots-ne-SLOTS : goal.returns-then-slots-ne-SLOTS
 returns-then-slots-ne-SLOTS c = sym (found-other _ _ _ _ _ c.if-slots-ne-SLOTS.true)
@@ -35,21 +35,21 @@ returns-then-next-gt-SLOTS c = sym (found-past _ _ _ _ _ c.if-next-gt-SLOTS.true
 pub loop-i-init : goal.loop-i-init
 loop-i-init c = (c.if-slots-ne-SLOTS.false, c.if-rights-ne-RIGHTS.false, sym (found-pair _ _ _ _ _ c.if-slots-ne-SLOTS.false c.if-rights-ne-RIGHTS.false c.if-next-gt-SLOTS.false), omega arith)
 
-pub returns-then-x-ne0 : goal.returns-then-x-ne0
-returns-then-x-ne0 c =
+pub returns-then-other : goal.returns-then-other
+returns-then-other c =
     let l = c.loop-i in
     let a = c.args in
-    sym (search-hit _ l.i l.looked (omega arith) (holds-some a.slots.now (marks_from levels a.count a.rights.now) a.x (l.i - 1) c.if-slots-i.true c.if-x-ne0.true)) ∙ l.invariant.2
+    sym (search-hit _ l.i l.looked (omega arith) (holds-some a.slots.now (marks_from levels a.count a.rights.now) a.x (l.i - 1) c.if-slots-i.true c.if-other.true)) ∙ l.invariant.2
 
-pub returns-then-mark_at-eq1 : goal.returns-then-mark_at-eq1
-returns-then-mark_at-eq1 c =
+pub returns-then-marked : goal.returns-then-marked
+returns-then-marked c =
     let l = c.loop-i in
-    sym (search-hit _ l.i l.looked (omega arith) (tested (goal.at.returns-then-mark_at-eq1 c).After-mark_at ∙ eq-eqb _ 1 c.if-mark_at-eq1.true)) ∙ l.invariant.2
+    sym (search-hit _ l.i l.looked (omega arith) (tested (goal.at.returns-then-marked c).After-mark_at-marked ∙ eq-eqb _ 1 c.if-marked.true)) ∙ l.invariant.2
 
-pub loop-i-preserved-else-mark_at-eq1 : goal.loop-i-preserved-else-mark_at-eq1
-loop-i-preserved-else-mark_at-eq1 c =
+pub loop-i-preserved-else-marked : goal.loop-i-preserved-else-marked
+loop-i-preserved-else-marked c =
     let l = c.loop-i in
-    (l.invariant.0, l.invariant.1, sym (search-miss _ l.i l.looked (omega arith) (tested (goal.at.loop-i-preserved-else-mark_at-eq1 c).After-mark_at ∙ ne_eqb _ 1 c.if-mark_at-eq1.false)) ∙ l.invariant.2, omega arith)
+    (l.invariant.0, l.invariant.1, sym (search-miss _ l.i l.looked (omega arith) (tested (goal.at.loop-i-preserved-else-marked c).After-mark_at-marked ∙ ne_eqb _ 1 c.if-marked.false)) ∙ l.invariant.2, omega arith)
 
 pub loop-i-preserved : goal.loop-i-preserved
 loop-i-preserved c =

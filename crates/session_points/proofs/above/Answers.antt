@@ -3,7 +3,7 @@ use Rattle.std.proofs.Common.{◌/◌, sym, refl, arith}
 use Rattle.reuse.specs.Limits.{slot_count, levels}
 use Rattle.session_points.proofs.Ups.{slot-other, slot-past, slot-some, walked_none, walked-some, left-few, up_start, up_turn, up-end}
 use Rattle.session_points.proofs.above.Goals as goal
-use Rattle.session_points.proofs.above.Goals.{else-node-eq0, then-node-eq0}
+use Rattle.session_points.proofs.above.Goals.{else-left, then-left}
 
 pub returns-then-rights-ne-RIGHTS : goal.returns-then-rights-ne-RIGHTS
 returns-then-rights-ne-RIGHTS c = sym (walked_none _ _ (slot-other _ _ c.if-rights-ne-RIGHTS.true))
@@ -31,9 +31,9 @@ pub loop-node-preserved : goal.loop-node-preserved
 loop-node-preserved c =
     let l = c.loop-node in
     let t = up_turn _ _ _ _ _ _ _ l.invariant (omega arith) in
-    elim c.if-node-eq0.branch [
-      | then-node-eq0 w ↦ rw (w.total-is, w.count-is) (t.0 w.if-node-eq0.true (c.type_inv.rights (l.node / 2)).fits)
-      | else-node-eq0 w ↦ rw (w.total-is, w.count-is) (t.1 w.if-node-eq0.false)
+    elim c.if-left.branch [
+      | then-left w ↦ rw (w.total-is, w.count-is) (t.0 w.if-left.true (c.type_inv.rights (l.node / 2)).fits)
+      | else-left w ↦ rw (w.total-is, w.count-is) (t.1 w.if-left.false)
     ]
 
 pub returns : goal.returns

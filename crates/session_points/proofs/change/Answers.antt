@@ -2,7 +2,7 @@
 use Rattle.std.proofs.Common.{sym, arith}
 use Rattle.session_points.proofs.Changing.{change-past, changing-start, changing-turn, changing-end}
 use Rattle.session_points.proofs.change.Goals as goal
-use Rattle.session_points.proofs.change.Goals.{else-node-ne0, then-node-ne0}
+use Rattle.session_points.proofs.change.Goals.{else-right, then-right}
 
 pub returns-then-s-ge-SLOTS : goal.returns-then-s-ge-SLOTS
 returns-then-s-ge-SLOTS c = sym (change-past _ _ _ c.if-s-ge-SLOTS.true)
@@ -13,9 +13,9 @@ loop-node-init c = changing-start _ _ _ c.if-s-ge-SLOTS.false
 pub loop-node-preserved : goal.loop-node-preserved
 loop-node-preserved c =
     let t = changing-turn _ _ _ _ _ c.loop-node.invariant (omega arith) in
-    elim c.if-node-ne0.branch [
-      | then-node-ne0 w ↦ rw (w.rights-is, w.wrapping_add_u32.ensures.value) (t.0 w.if-node-ne0.true)
-      | else-node-ne0 w ↦ rw w.rights-is (t.1 w.if-node-ne0.false)
+    elim c.if-right.branch [
+      | then-right w ↦ rw (w.rights-is, w.wrapping_add_u32.ensures.value) (t.0 w.if-right.true)
+      | else-right w ↦ rw w.rights-is (t.1 w.if-right.false)
     ]
 
 pub returns : goal.returns

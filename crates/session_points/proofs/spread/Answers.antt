@@ -3,7 +3,7 @@ use Rattle.std.proofs.Common.{◌-◌, ◌≤◌, arith, length-set}
 use Rattle.reuse.specs.Limits.{slot_count}
 use Rattle.session_points.proofs.Spreads.{spread-start, spread-above, spread-within, spread_end}
 use Rattle.session_points.proofs.spread.Goals as goal
-use Rattle.session_points.proofs.spread.Goals.{In-loop-i, else-total-sum, then-total-sum}
+use Rattle.session_points.proofs.spread.Goals.{In-loop-i, else-over, then-over}
 
 -- the points left are no more than the slots
 small : (c : In-loop-i) → c.loop-i.i ≤ slot_count
@@ -36,9 +36,9 @@ bounds-marks-i-in-loop-i-2 c = let b = c.loop-i.invariant in simp length-set (om
 pub loop-i-preserved : goal.loop-i-preserved
 loop-i-preserved c =
     let l = c.loop-i in
-    elim c.if-total-sum.branch [
-      | then-total-sum w ↦ rw (w.good-is, c.remaining.ensures) (spread-above _ _ _ _ _ _ l.invariant (omega arith) w.if-total-sum.true)
-      | else-total-sum w ↦ rw (w.good-is, c.remaining.ensures) (spread-within _ _ _ _ _ _ l.invariant (omega arith) w.if-total-sum.false)
+    elim c.if-over.branch [
+      | then-over w ↦ rw (w.good-is, c.remaining.ensures) (spread-above _ _ _ _ _ _ l.invariant (omega arith) w.if-over.true)
+      | else-over w ↦ rw (w.good-is, c.remaining.ensures) (spread-within _ _ _ _ _ _ l.invariant (omega arith) w.if-over.false)
     ]
 
 pub shape_of-marks : goal.shape_of-marks

@@ -13,14 +13,14 @@ ok c = sym c.intact.ensures ∙ c.if-not-intact.false
 pub returns-then-not-intact : goal.returns-then-not-intact
 returns-then-not-intact c = sym (refusal-unsound _ _ _ _ _ _ _ _ (sym c.intact.ensures ∙ c.if-not-intact.true))
 
-pub returns-then-reads-eq-MAX_READS : goal.returns-then-reads-eq-MAX_READS
-returns-then-reads-eq-MAX_READS c = sym (refusal-reads _ _ _ _ _ _ _ (ok (goal.at.returns-then-reads-eq-MAX_READS c).Else-not-intact) _ c.if-reads-eq-MAX_READS.true)
+pub returns-then-at_limit : goal.returns-then-at_limit
+returns-then-at_limit c = sym (refusal-reads _ _ _ _ _ _ _ (ok (goal.at.returns-then-at_limit c).Else-not-intact) _ c.if-at_limit.true)
 
 pub returns-then-not-contains : goal.returns-then-not-contains
-returns-then-not-contains c = sym (refusal-extents _ _ _ _ _ _ _ (ok (goal.at.returns-then-not-contains c).Else-not-intact) _ c.if-reads-eq-MAX_READS.false c.if-count-eq-MAX_EXTENTS.true (sym c.contains.ensures ∙ c.if-not-contains.true))
+returns-then-not-contains c = sym (refusal-extents _ _ _ _ _ _ _ (ok (goal.at.returns-then-not-contains c).Else-not-intact) _ c.if-at_limit.false c.if-full.true (sym c.contains.ensures ∙ c.if-not-contains.true))
 
 pub returns-else-not-contains : goal.returns-else-not-contains
-returns-else-not-contains c = sym (refusal-known _ _ _ _ _ _ _ (ok (goal.at.returns-else-not-contains c).Else-not-intact) _ c.if-reads-eq-MAX_READS.false c.if-count-eq-MAX_EXTENTS.true (sym c.contains.ensures ∙ c.if-not-contains.false))
+returns-else-not-contains c = sym (refusal-known _ _ _ _ _ _ _ (ok (goal.at.returns-else-not-contains c).Else-not-intact) _ c.if-at_limit.false c.if-full.true (sym c.contains.ensures ∙ c.if-not-contains.false))
 
-pub returns-else-count-eq-MAX_EXTENTS : goal.returns-else-count-eq-MAX_EXTENTS
-returns-else-count-eq-MAX_EXTENTS c = sym (refusal-few _ _ _ _ _ _ _ (ok (goal.at.returns-else-count-eq-MAX_EXTENTS c).Else-not-intact) _ c.if-reads-eq-MAX_READS.false c.if-count-eq-MAX_EXTENTS.false)
+pub returns-else-full : goal.returns-else-full
+returns-else-full c = sym (refusal-few _ _ _ _ _ _ _ (ok (goal.at.returns-else-full c).Else-not-intact) _ c.if-at_limit.false c.if-full.false)

@@ -9,7 +9,7 @@ use Rattle.session_marks.specs.Marks.{tidy}
 use Rattle.reuse_rows.proofs.Slices.{passed, failed, ended}
 use Rattle.session_soundness.proofs.Passes.{tidy-large, tidy-stray, tidy-bare, tidy-kept}
 use Rattle.session_soundness.proofs.neat.Goals as goal
-use Rattle.session_soundness.proofs.neat.Goals.{else-mark-ne1, then-mark-ne1+else-mark-ne0+else-x-ne0, then-mark-ne1+else-mark-ne0+then-x-ne0, then-mark-ne1+then-mark-ne0}
+use Rattle.session_soundness.proofs.neat.Goals.{else-mark-ne1, then-mark-ne1+else-large+else-x-ne0, then-mark-ne1+else-large+then-x-ne0, then-mark-ne1+then-large}
 
 pub loop-i-init : goal.loop-i-init
 loop-i-init c = (omega arith, refl)
@@ -20,9 +20,9 @@ loop-i-preserved c =
     let l = c.loop-i in (
       omega arith,
       elim c.if-mark-ne1.branch [
-        | then-mark-ne1+then-mark-ne0 w ↦ rw w.good-is (failed l.good l.invariant.1 (tidy-large slot_count a.marks.now a.slots.now l.i (omega arith) (omega arith) (omega arith) w.if-mark-ne1.true w.if-mark-ne0.true))
-        | then-mark-ne1+else-mark-ne0+then-x-ne0 w ↦ rw w.good-is (failed l.good l.invariant.1 (tidy-stray slot_count a.marks.now a.slots.now l.i (omega arith) (omega arith) (omega arith) w.if-mark-ne0.false w.if-x-ne0.true))
-        | then-mark-ne1+else-mark-ne0+else-x-ne0 w ↦ rw w.good-is (passed l.good l.invariant.1 (tidy-bare slot_count a.marks.now a.slots.now l.i (omega arith) (omega arith) (omega arith) w.if-mark-ne0.false w.if-x-ne0.false))
+        | then-mark-ne1+then-large w ↦ rw w.good-is (failed l.good l.invariant.1 (tidy-large slot_count a.marks.now a.slots.now l.i (omega arith) (omega arith) (omega arith) w.if-mark-ne1.true w.if-large.true))
+        | then-mark-ne1+else-large+then-x-ne0 w ↦ rw w.good-is (failed l.good l.invariant.1 (tidy-stray slot_count a.marks.now a.slots.now l.i (omega arith) (omega arith) (omega arith) w.if-large.false w.if-x-ne0.true))
+        | then-mark-ne1+else-large+else-x-ne0 w ↦ rw w.good-is (passed l.good l.invariant.1 (tidy-bare slot_count a.marks.now a.slots.now l.i (omega arith) (omega arith) (omega arith) w.if-large.false w.if-x-ne0.false))
         | else-mark-ne1 w ↦ rw w.good-is (passed l.good l.invariant.1 (tidy-kept slot_count a.marks.now a.slots.now l.i (omega arith) (omega arith) (omega arith) w.if-mark-ne1.false))
       ],
     )

@@ -7,7 +7,7 @@ use Rattle.session.proofs.Corresponds.{Facts, sound-facts}
 use Rattle.session.proofs.Ways.{Ready, ready_made, ready-there, search_of, found, Accepted, gatherable, refused-way, accepts, moves, known-way, enters, cold-way}
 use borrow.Author.Rules.{rules}
 use Rattle.session.proofs.Session.read.Goals as goal
-use Rattle.session.proofs.Session.read.Goals.{After-find-f, Else-n-ne0, Joined-next-eq-SLOTS, Start, then-next-eq-SLOTS, else-next-eq-SLOTS}
+use Rattle.session.proofs.Session.read.Goals.{After-find-f, Else-n-ne0, Joined-filled, Start, then-filled, else-filled}
 
 -- the widths of the session's arrays
 wide : (c : Start) → Wide c.args.self
@@ -22,17 +22,17 @@ facts : (c : Else-n-ne0) → Wide c.args.self → Facts c.args.self
 facts c w = sound-facts _ w (accepted c w).ok
 
 -- room is made
-made : (c : Joined-next-eq-SLOTS) → Facts c.args.self → Ready c.args.self c.if-next-eq-SLOTS.self
+made : (c : Joined-filled) → Facts c.args.self → Ready c.args.self c.if-filled.self
 made c f =
     let s = c.args.self in
-    elim c.if-next-eq-SLOTS.branch [
-      | then-next-eq-SLOTS b ↦ subst (λ (σ : Session). Ready s σ) (sym (b.self-is ∙ b.gathered-self.ensures)) (ready_made s f b.if-next-eq-SLOTS.true)
-      | else-next-eq-SLOTS b ↦ subst (λ (σ : Session). Ready s σ) (sym b.self-is) (ready-there s f b.if-next-eq-SLOTS.false)
+    elim c.if-filled.branch [
+      | then-filled b ↦ subst (λ (σ : Session). Ready s σ) (sym (b.self-is ∙ b.gathered-self.ensures)) (ready_made s f b.if-filled.true)
+      | else-filled b ↦ subst (λ (σ : Session). Ready s σ) (sym b.self-is) (ready-there s f b.if-filled.false)
     ]
 
 -- the search finds the extent's slot
-searched : (c : After-find-f) → Ready c.args.self c.if-next-eq-SLOTS.self → c.find-f.result ≡ search_of c.if-next-eq-SLOTS.self c.args.extent
-searched c r = c.find-f.ensures ∙ found c.args.self c.if-next-eq-SLOTS.self r c.args.extent
+searched : (c : After-find-f) → Ready c.args.self c.if-filled.self → c.find-f.result ≡ search_of c.if-filled.self c.args.extent
+searched c r = c.find-f.ensures ∙ found c.args.self c.if-filled.self r c.args.extent
 
 pub returns-then-n-ne0 : goal.returns-then-n-ne0
 returns-then-n-ne0 c = c.refused.ensures ∙ refused-way _ (wide (goal.at.returns-then-n-ne0 c).Start) _ _ c.refusal-n.ensures c.if-n-ne0.true
@@ -45,32 +45,32 @@ gathered-self-requires c =
 pub overflow_cast-below : goal.overflow_cast-below
 overflow_cast-below c =
     let b = goal.at.overflow_cast-below c in
-    omega (arith, (made b.Joined-next-eq-SLOTS (facts b.Else-n-ne0 (wide b.Start))).roomed.room)
+    omega (arith, (made b.Joined-filled (facts b.Else-n-ne0 (wide b.Start))).roomed.room)
 
 pub entered-requires : goal.entered-requires
 entered-requires c =
     let b = goal.at.entered-requires c in
     let w = wide b.Start in
-    let r = made b.Joined-next-eq-SLOTS (facts b.Else-n-ne0 w) in
+    let r = made b.Joined-filled (facts b.Else-n-ne0 w) in
     enters _ w _ (accepted b.Else-n-ne0 w) _ _ r (searched b.After-find-f r) c.if-f-eq-SLOTS.true
 
 pub returns-then-f-eq-SLOTS : goal.returns-then-f-eq-SLOTS
 returns-then-f-eq-SLOTS c =
     let b = goal.at.returns-then-f-eq-SLOTS c in
     let w = wide b.Start in
-    let r = made b.Joined-next-eq-SLOTS (facts b.Else-n-ne0 w) in
+    let r = made b.Joined-filled (facts b.Else-n-ne0 w) in
     c.entered.ensures ∙ cold-way _ w _ (accepted b.Else-n-ne0 w) _ _ r (searched b.After-find-f r) c.if-f-eq-SLOTS.true
 
 pub moved-requires : goal.moved-requires
 moved-requires c =
     let b = goal.at.moved-requires c in
     let w = wide b.Start in
-    let r = made b.Joined-next-eq-SLOTS (facts b.Else-n-ne0 w) in
+    let r = made b.Joined-filled (facts b.Else-n-ne0 w) in
     moves _ w _ (accepted b.Else-n-ne0 w) _ _ r (searched b.After-find-f r) c.if-f-eq-SLOTS.false
 
 pub returns : goal.returns
 returns c =
     let b = goal.at.returns c in
     let w = wide b.Start in
-    let r = made b.Joined-next-eq-SLOTS (facts b.Else-n-ne0 w) in
+    let r = made b.Joined-filled (facts b.Else-n-ne0 w) in
     c.moved.ensures ∙ known-way _ w _ (accepted b.Else-n-ne0 w) _ _ r (searched b.After-find-f r) c.if-f-eq-SLOTS.false
