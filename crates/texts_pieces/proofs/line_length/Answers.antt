@@ -33,7 +33,7 @@ pub loop-len-preserved : goal.loop-len-preserved
 loop-len-preserved c =
     let a = c.args in
     let l = c.loop-len in
-    let z = length_more a.s.now (a.at + l.len) (a.most - l.len) c.if-s-i.false c.if-s-i-eq10.false (omega arith) in
+    let z = length_more a.s.now (a.at + l.len) (a.most - l.len) c.if-s-i.false (λ e. omega (arith, e)) (omega arith) in
     let u : a.most - l.len - 1 ≡ a.most - (l.len + 1) = omega arith in
     let v : a.at + l.len + 1 ≡ a.at + (l.len + 1) = omega arith in
     let w = ap (λ (j : ℕ). line_length j (drop (a.at + l.len + 1) a.s.now)) u ∙ ap (λ (j : ℕ). line_length (a.most - (l.len + 1)) (drop j a.s.now)) v in
