@@ -26,7 +26,7 @@ use Rattle.session_calls.specs.Reads as full-reads
 use Rattle.session_calls.specs.Reads.{FullStep}
 use Rattle.session_calls.specs.Summaries as full-calls
 use Rattle.session.specs.declared.Session.{Session}
-use Rattle.session.specs.Sessions.{Wide, new_of, old_of, fresh, sound}
+use Rattle.session.specs.Sessions.{Wide, new_of, old_of, sound}
 use Rattle.session.specs.Reads.{roomed, read_of}
 use Rattle.session_summary.specs.Summaries.{summary_call, misses_call, share_call}
 use Rattle.moments.specs.Names.{is_name, lies, is_set, session_under, Named}
