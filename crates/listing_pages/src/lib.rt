@@ -36,7 +36,8 @@ fn put_rows(page: &mut [u8], at: usize, reads: u32, counts: &[u32]) -> usize
         misses = misses - counts[i];
         let size = i + 1;
         let rows = counts.len() - size;
-        next = listing_rows::put_at(page, next, size as u32, misses, rows);
+        let shown = size as u32;
+        next = listing_rows::put_at(page, next, shown, misses, rows);
         i = size;
     }
     next

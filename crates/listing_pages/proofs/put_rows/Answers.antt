@@ -10,8 +10,8 @@ loop-i-init c = rows_start _ _ _ _ c.requires
 pub overflow_sub-misses : goal.overflow_sub-misses
 overflow_sub-misses c = omega (arith, rows_left _ _ _ _ _ _ _ c.loop-i.invariant)
 
-pub overflow_cast-size : goal.overflow_cast-size
-overflow_cast-size c = omega (arith, c.requires.few)
+pub overflow_cast-shown : goal.overflow_cast-shown
+overflow_cast-shown c = omega (arith, c.requires.few)
 
 pub loop-i-preserved : goal.loop-i-preserved
 loop-i-preserved c = rows-turn _ _ _ _ _ _ _ c.loop-i.invariant (omega arith) (search rules) c.put_at-next.ensures
