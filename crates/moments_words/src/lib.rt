@@ -18,7 +18,8 @@ fn done(a: MomentAnswer) -> bool
     }
 }
 
-// The session in the words is put under the name.
+// The session in the words is put under the name. Not inlined: in the call for C, LLVM would lose a register (docs/DECISIONS.md).
+#[inline(never)]
 pub fn name_session(words: &[u32], names: &mut [u32], name: u32) -> MomentAnswer
     ensures { (result ≡ (name_in words.now names.old name).answer) × (names.new ≡ (name_in words.now names.old name).names) }
 {
