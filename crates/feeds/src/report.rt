@@ -9,13 +9,20 @@ pub fn output(rt: &impl Print, name: &[u8], page: &[u8]) -> io::Result<()> {
     rt.write_all(page)
 }
 
-// A text: its output fed byte by byte, and how many of its cuttings give that output, and how many do not.
+// How many cuttings give that output, and how many do not.
+fn counts(rt: &impl Print, agree: u64, differ: u64) -> io::Result<()> {
+    println!(rt; "{agree} cuttings agree, {differ} differ")
+}
+
+// A text: its output fed byte by byte, and its cuttings.
 pub fn text(rt: &impl Print, name: &[u8], text: &[u8]) -> io::Result<()> {
     let page = pieces::by_bytes(text);
     let bytes = page.bytes;
     let wanted = pieces::part(&bytes, 0, page.len);
     output(rt, name, wanted)?;
-    let agree = pieces::cuttings(text, wanted, true);
-    let differ = pieces::cuttings(text, wanted, false);
-    println!(rt; "{agree} cuttings agree, {differ} differ")
+    counts(
+        rt,
+        pieces::cuttings(text, wanted, true),
+        pieces::cuttings(text, wanted, false),
+    )
 }

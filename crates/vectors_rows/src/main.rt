@@ -25,23 +25,37 @@ fn after(reads: u32, extents: u32) -> Session
     s
 }
 
+// A number after a text.
+fn put(rt: &impl Print, text: &str, n: u32) -> io::Result<()> {
+    print!(rt; "{text}{n}")
+}
+
 // One row: the call, and what it answered. The session after it is handed on.
 fn row(rt: &impl Print, call: &str, step: Step) -> io::Result<Session> {
     let answer = step.answer;
+    print!(rt; "{call}")?;
     match answer {
         Answer::Cold {
             number,
             slots_looked,
-        } => println!(rt; "{call}: cold {number}, slots looked at {slots_looked}")?,
+        } => {
+            put(rt, ": cold ", number)?;
+            put(rt, ", slots looked at ", slots_looked)?;
+        }
         Answer::Distance {
             distance,
             sums_read,
             slots_looked,
-        } => println!(rt;
-            "{call}: distance {distance}, sums read {sums_read}, slots looked at {slots_looked}"
-        )?,
-        Answer::Refused(n) => println!(rt; "{call}: refused {n}")?,
+        } => {
+            put(rt, ": distance ", distance)?;
+            put(rt, ", sums read ", sums_read)?;
+            put(rt, ", slots looked at ", slots_looked)?;
+        }
+        Answer::Refused(n) => {
+            put(rt, ": refused ", n)?;
+        }
     }
+    println!(rt)?;
     Ok(step.session)
 }
 
