@@ -106,7 +106,8 @@ pub fn line_length(s: &[u8], at: usize, most: usize) -> usize
         if s.len() <= i {
             return len;
         }
-        if s[i] == 10 {
+        let ends = s[i] == 10;
+        if ends {
             return len;
         }
         len += 1;

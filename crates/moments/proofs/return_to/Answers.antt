@@ -11,6 +11,9 @@ use Rattle.moments.proofs.Calls.{return-not, return-unset, return-unsound, retur
 use Rattle.moments.proofs.return_to.Goals as goal
 use Rattle.moments.proofs.return_to.Goals.{After-session_in-kept, Else-none, Else-unset}
 
+pub returns-then-none : goal.returns-then-none
+returns-then-none c = sym (return-not _ _ _ (sym c.is_name-known.ensures ∙ c.if-none.true))
+
 -- the number is a name
 named : (c : Else-none) → is_name c.args.name ≡ true
 named c = sym c.is_name-known.ensures ∙ c.if-none.false
@@ -18,9 +21,6 @@ named c = sym c.is_name-known.ensures ∙ c.if-none.false
 -- the name is set
 set : (c : Else-unset) → is_set c.args.names.now c.args.name ≡ true
 set c = sym c.is_set-set.ensures ∙ c.if-unset.false
-
-pub returns-then-none : goal.returns-then-none
-returns-then-none c = sym (return-not _ _ _ (sym c.is_name-known.ensures ∙ c.if-none.true))
 
 pub returns-then-unset : goal.returns-then-unset
 returns-then-unset c =

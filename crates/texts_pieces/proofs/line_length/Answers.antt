@@ -22,11 +22,11 @@ returns-then-s-i c =
     let z = length-end a.s.now (a.at + l.len) (a.most - l.len) c.if-s-i.true in
     omega (arith, l.invariant.2, z)
 
-pub returns-then-s-i-eq10 : goal.returns-then-s-i-eq10
-returns-then-s-i-eq10 c =
+pub returns-then-ends : goal.returns-then-ends
+returns-then-ends c =
     let a = c.args in
     let l = c.loop-len in
-    let z = length-stop a.s.now (a.at + l.len) (a.most - l.len) c.if-s-i.false c.if-s-i-eq10.true in
+    let z = length-stop a.s.now (a.at + l.len) (a.most - l.len) c.if-s-i.false c.if-ends.true in
     omega (arith, l.invariant.2, z)
 
 pub loop-len-preserved : goal.loop-len-preserved
