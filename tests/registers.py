@@ -1,5 +1,8 @@
 """Looks through compiled files for a fault of the compiler's: code that makes room on the stack in register r11 while r11
-still holds a value that is read afterwards. A proof says nothing of what LLVM makes of proved code, and this it has made.
+holds a value that is still wanted. A proof says nothing of what LLVM makes of proved code, and this it has made.
+
+What is looked for is r11 in use, for whatever it be, before a function makes its room in it: where that is never so, no
+value is lost. Where it is so once, a reader decides whether the value is wanted afterwards.
 
 usage: python3 tests/registers.py FILE..     exit status 1, and the functions' names, where it is found
 """
@@ -10,7 +13,6 @@ import sys
 
 FUNCTION = re.compile(r"[0-9a-f]+ <(.+)>:$")
 ROOM = re.compile(r"mov\s+%rsp,%r11$")
-WRITES = re.compile(r"(mov|lea|xor|set\w+|imul)\b.*,?%r11[bdw]?$")
 
 
 def functions(path):
@@ -27,26 +29,21 @@ def functions(path):
     return found
 
 
-def is_lost(instructions):
-    """Whether r11 is set, used to make room on the stack, and then read."""
-    for at, instruction in enumerate(instructions):
-        if ROOM.match(instruction) and any("%r11" in before for before in instructions[:at]):
-            end = next((k for k in range(at, len(instructions)) if instructions[k].startswith("jne")), at)
-            after = next((later for later in instructions[end + 1 :] if "%r11" in later), "")
-            if after and not WRITES.match(after):
-                return True
-    return False
+def in_use(instructions):
+    """Whether r11 is named before it is used to make room on the stack."""
+    rooms = [at for at, instruction in enumerate(instructions) if ROOM.match(instruction)]
+    return bool(rooms) and any("%r11" in before for before in instructions[: rooms[0]])
 
 
 def main(paths):
-    lost = []
+    found_in = []
     for path in paths:
         found = functions(path)
         if not found:
             raise SystemExit("no function in " + path)
-        lost += [path + ": " + name for name, code in found.items() if is_lost(code)]
-    print("\n".join(lost) if lost else "no register is lost where room is made on the stack")
-    return 1 if lost else 0
+        found_in += [path + ": " + name for name, code in found.items() if in_use(code)]
+    print("\n".join(found_in) if found_in else "no register is in use where room is made on the stack")
+    return 1 if found_in else 0
 
 
 if __name__ == "__main__":
