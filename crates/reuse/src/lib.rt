@@ -1,8 +1,12 @@
 // Reuse distances: the definitions, their laws, and the limits.
 #![tactic(auto)]
 
+mod refusals;
+
 ghost use Rattle.std.specs.Prelude.{◌≡◌};
 ghost use Rattle.reuse.specs.Limits.{max_reads, max_extents, slot_count, right_count, levels, max_store, max_customers, max_names};
+
+pub use refusals::{Refusal, UnknownNumber};
 
 // The most reads of a trace.
 pub const MAX_READS: u32 = 1048576;
