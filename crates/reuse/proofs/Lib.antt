@@ -19,3 +19,4 @@ pub mod Traces
 pub mod Examples
 pub mod Signed
 pub mod Tests
+pub mod Numbers

@@ -1,5 +1,6 @@
 -- The refusals and the paper's number of each.
 use Rattle.std.specs.Prelude.{◌≡◌, ℕ, Option, Some, None, Result, Ok, Err, cond, eqb}
+use Rattle.std.specs.Option.{unwrap_or}
 use Rattle.reuse.specs.declared.refusals.Refusal.{Refusal}
 use Rattle.reuse.specs.declared.refusals.Refusal.TheVariants.{FaultyLine, OutOfRange, WrongTotal, PlanTooLarge, NotASummary, NoRoom, Unsound, TooManyReads, TooManyExtents, StoreTooSmall, NameNotSet, BelowCold}
 use Rattle.reuse.specs.declared.refusals.UnknownNumber.{UnknownNumber}
@@ -35,6 +36,10 @@ numbered n =
     (cond (eqb n 11) (Some NameNotSet)
     (cond (eqb n 12) (Some BelowCold)
     None)))))))))))
+
+-- the refusal with a number that one has; 7 for another
+abbrev pub refusal_with : ℕ → Refusal
+refusal_with n = unwrap_or (numbered n) Unsound
 
 -- an answer is the refusal with this number; an error says that no refusal has it
 abbrev pub Numbered : ℕ → Result Refusal UnknownNumber → Type 0

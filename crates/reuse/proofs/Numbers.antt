@@ -1,0 +1,20 @@
+-- Each refusal is the one with its number.
+use Rattle.std.proofs.Common.{◌≡◌, refl}
+use Rattle.reuse.specs.Refusals.{number_of, refusal_with}
+use Rattle.reuse.specs.declared.refusals.Refusal.{Refusal}
+use Rattle.reuse.specs.declared.refusals.Refusal.TheVariants.{FaultyLine, OutOfRange, WrongTotal, PlanTooLarge, NotASummary, NoRoom, Unsound, TooManyReads, TooManyExtents, StoreTooSmall, NameNotSet, BelowCold}
+
+-- the refusal with a refusal's number is that refusal
+pub with-number : (r : Refusal) → refusal_with (number_of r) ≡ r
+with-number FaultyLine = refl
+with-number OutOfRange = refl
+with-number WrongTotal = refl
+with-number PlanTooLarge = refl
+with-number NotASummary = refl
+with-number NoRoom = refl
+with-number Unsound = refl
+with-number TooManyReads = refl
+with-number TooManyExtents = refl
+with-number StoreTooSmall = refl
+with-number NameNotSet = refl
+with-number BelowCold = refl
