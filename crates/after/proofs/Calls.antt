@@ -1,4 +1,6 @@
 -- The call's definition, case by case, and the stack that the code works on.
+use Rattle.std.specs.Prelude.{Ok}
+use Rattle.reuse.specs.declared.refusals.Refusal.TheVariants.{NotASummary, NoRoom, TooManyReads, TooManyExtents}
 use mathlib.Core.Path.{◌≡◌, ap, ◌∙◌}
 use Prim.Native.Nat.{ℕ, ◌+◌, ◌-◌, ◌≤◌, ◌<◌}
 use native.Mathlib.Omega.{arith}
@@ -15,7 +17,6 @@ use Rattle.reuse.specs.Summary.{well_formed, reads_of, first_of, recent_of}
 use Rattle.reuse.proofs.Stack.{length-reuses}
 use Rattle.reuse_copies.proofs.Padding.{padded-front, padded-length}
 use Rattle.reuse.proofs.Formed.{formed, recent-distinct, prefix-stack}
-use Rattle.summary_calls.specs.declared.Written.TheVariants.{Words}
 use Rattle.summary_calls.specs.Calls.{wrote, refused}
 use Rattle.summary_calls.proofs.Fields.{given, shaped}
 use Rattle.summary_calls.proofs.Fields.{recent-size, recent-few}
@@ -47,19 +48,19 @@ module _ (w : List ℕ) (h : well_formed w ≡ true) (stack : List ℕ) (e : sta
 
 module _ (w reads out : List ℕ) where
   -- the prefix is not well formed
-  pub refused-words : well_formed w ≡ false → after_call w reads out ≡ refused 5 out
+  pub refused-words : well_formed w ≡ false → after_call w reads out ≡ refused NotASummary out
   unfolding after_call
   refused-words e = simp e
 
   module _ (h : well_formed w ≡ true) where
     -- too many reads
-    pub refused-reads : max_reads - get_or w 0 0 < length reads → after_call w reads out ≡ refused 8 out
+    pub refused-reads : max_reads - get_or w 0 0 < length reads → after_call w reads out ≡ refused TooManyReads out
     unfolding after_call reads_of
     refused-reads l = simp (h, lt-leb (get_or w 0 0 + length reads) max_reads (omega (arith, (shaped w h).short)))
 
     module _ (hl : length reads ≤ max_reads - get_or w 0 0) where
       -- too many extents
-      pub refused-extents : max_extents < length (firsts (first_of w ++ reads)) → after_call w reads out ≡ refused 9 out
+      pub refused-extents : max_extents < length (firsts (first_of w ++ reads)) → after_call w reads out ≡ refused TooManyExtents out
       unfolding after_call reads_of
       refused-extents e =
           simp (h, le-leb (get_or w 0 0 + length reads) max_reads (omega (arith, (shaped w h).short)), lt-leb (length (firsts (first_of w ++ reads))) max_extents e)
@@ -76,14 +77,14 @@ module _ (w reads out : List ℕ) where
         size = simp length-map (length-reuses (recent_of w) reads)
 
         -- too few words for the answer
-        pub refused-room : length out < length reads → after_call w reads out ≡ refused 6 out
+        pub refused-room : length out < length reads → after_call w reads out ≡ refused NoRoom out
         unfolding wrote
         refused-room l = traces ∙ simp (lt-leb (length (map word_of (reuses (recent_of w) reads))) (length out) (omega (arith, size)))
 
         -- the distances are written
         pub traced : length reads ≤ length out
-            → after_call w reads out ≡ record { answer = Words (length reads); buffer = map word_of (reuses (recent_of w) reads) ++ drop (length reads) out }
+            → after_call w reads out ≡ record { answer = Ok (length reads); buffer = map word_of (reuses (recent_of w) reads) ++ drop (length reads) out }
         unfolding wrote
         traced l =
             traces ∙ simp (le-leb (length (map word_of (reuses (recent_of w) reads))) (length out) (omega (arith, size)))
-            (ap (λ (k : ℕ). record { answer = Words k; buffer = map word_of (reuses (recent_of w) reads) ++ drop k out }) size)
+            (ap (λ (k : ℕ). record { answer = Ok k; buffer = map word_of (reuses (recent_of w) reads) ++ drop k out }) size)

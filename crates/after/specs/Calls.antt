@@ -1,5 +1,6 @@
 -- What the call on a part after a prefix answers, and what it leaves in the buffer lent to it.
 use Rattle.std.specs.Prelude.{ℕ, ◌+◌, List, ◌++◌, map, cond, leb, length}
+use Rattle.reuse.specs.declared.refusals.Refusal.TheVariants.{NotASummary, TooManyReads, TooManyExtents}
 use Rattle.reuse.specs.Limits.{max_reads, max_extents}
 use Rattle.reuse.specs.Lists.{firsts}
 use Rattle.reuse.specs.Lru.{reuses}
@@ -14,6 +15,6 @@ after_call prefix reads buffer =
     (cond (leb (reads_of prefix + length reads) max_reads)
     (cond (leb (length (firsts (first_of prefix ++ reads))) max_extents)
     (wrote (map word_of (reuses (recent_of prefix) reads)) buffer)
-    (refused 9 buffer))
-    (refused 8 buffer))
-    (refused 5 buffer)
+    (refused TooManyExtents buffer))
+    (refused TooManyReads buffer))
+    (refused NotASummary buffer)

@@ -9,26 +9,26 @@ ghost use Rattle.after.specs.Calls.{after_call};
 use summary::Written;
 
 // One word a read at the front of `out`: its distance in the whole log, or for a cold read 65,536 plus its number, which counts the prefix's extents too.
-pub fn distances(prefix: &[u32], reads: &[u32], out: &mut [u32]) -> Written
+pub fn distances(prefix: &[u32], reads: &[u32], out: &mut [u32]) -> Result<usize, Refusal>
     ensures { (result ≡ (after_call prefix.now reads.now out.old).answer) × (out.new ≡ (after_call prefix.now reads.now out.old).buffer) }
 {
     if !summary::well_formed(prefix) {
-        return Written::Refused(5);
+        return Err(Refusal::NotASummary);
     }
     let left = (reuse::MAX_READS - prefix[0]) as usize;
     let v = prefix[1] as usize;
     let first_end = 2 + v;
     if left < reads.len() {
-        return Written::Refused(8);
+        return Err(Refusal::TooManyReads);
     }
     let extents = reuse_tables::extents_with(&prefix[2..first_end], reads);
     if reuse::MAX_EXTENTS < extents {
-        return Written::Refused(9);
+        return Err(Refusal::TooManyExtents);
     }
     if out.len() < reads.len() {
-        return Written::Refused(6);
+        return Err(Refusal::NoRoom);
     }
     let mut stack = passes::recent_stack(prefix);
     passes::trace(&mut stack, v, reads, out);
-    Written::Words(reads.len())
+    Ok(reads.len())
 }

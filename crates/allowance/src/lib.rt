@@ -10,16 +10,16 @@ pub use allowance_calls::SizeAnswer;
 use summary_formed::well_formed;
 
 // The smallest size of a cache that misses no more often than this, and how many words of H the search for it read.
-pub fn smallest(words: &[u32], misses: u32) -> SizeAnswer
+pub fn smallest(words: &[u32], misses: u32) -> Result<SmallestCache, Refusal>
     ensures { result ≡ smallest_call words.now misses }
 {
     if !well_formed(words) {
-        return SizeAnswer::Refused(5);
+        return Err(Refusal::NotASummary);
     }
     let cold = words[1];
     let below = misses < cold;
     if below {
-        return SizeAnswer::Refused(12);
+        return Err(Refusal::BelowCold);
     }
     let v = cold as usize;
     let recent = 2 + v;
@@ -28,7 +28,7 @@ pub fn smallest(words: &[u32], misses: u32) -> SizeAnswer
 }
 
 // H from distance 1 upwards: each word read takes its reads from the misses, until no more than these are left.
-fn search(counts: &[u32], reads: u32, misses: u32) -> SizeAnswer
+fn search(counts: &[u32], reads: u32, misses: u32) -> Result<SmallestCache, Refusal>
     requires { Searchable counts.now reads }
     ensures { result ≡ found_by (searched misses reads counts.now) }
 {

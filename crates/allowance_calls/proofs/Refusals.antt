@@ -1,4 +1,6 @@
 -- Each refusal of the call for the smallest cache is given exactly under its condition, in order.
+use Rattle.std.specs.Prelude.{Ok, Err}
+use Rattle.reuse.specs.declared.refusals.Refusal.TheVariants.{NotASummary, BelowCold}
 use mathlib.Core.Path.{◌≡◌, refl, sym, ap, ◌∙◌}
 use Prim.Native.Nat.{ℕ, ◌≤◌}
 use native.Mathlib.Omega.{arith}
@@ -13,12 +15,11 @@ use Rattle.allowance_calls.specs.Smallest.{smallest}
 use Rattle.allowance_calls.specs.Search.{words_searched}
 use Rattle.allowance_calls.specs.Calls.{smallest_call}
 use Rattle.allowance_calls.specs.Refusals.{size_refusal, Refusals}
-use Rattle.allowance_calls.specs.declared.SizeAnswer.TheVariants.{Size, Refused}
 use Rattle.allowance_calls.proofs.Smallest.{below-cold, cold-below}
 use Rattle.allowance_calls.proofs.Calls.{call-size}
 
 -- the number of a refusal by two tests; a third one never fails
-number : (s n : ℕ) (p q : Bool) → size_refusal (cond p (cond q (Size s n) (Refused 12)) (Refused 5)) ≡ cond p (cond q (cond true 0 1) 12) 5
+number : (s n : ℕ) (p q : Bool) → size_refusal (cond p (cond q (Ok (record { size = s; words_read = n })) (Err BelowCold)) (Err NotASummary)) ≡ cond p (cond q (cond true 0 1) 12) 5
 number s n true true = refl
 number s n true false = refl
 number s n false q = refl
@@ -34,7 +35,7 @@ module _ (w : List ℕ) (m : ℕ) where
   same = number (smallest w m) (length (words_searched w m)) (well_formed w) enough
 
   -- a size is answered for well-formed words and such an allowance only
-  size-only : (s n : ℕ) → smallest_call w m ≡ Size s n → (well_formed w ≡ true) × (extents_of w ≤ m)
+  size-only : (s n : ℕ) → smallest_call w m ≡ Ok (record { size = s; words_read = n }) → (well_formed w ≡ true) × (extents_of w ≤ m)
   size-only s n e =
       let rest = exactly-rest 5 12 1 (λ e. omega arith) (λ e. omega arith) (λ e. omega arith) 0 0 (λ e. omega arith) (λ e. omega arith) (λ e. omega arith) (well_formed w) enough true in
       let h = rest.0 (sym same ∙ ap size_refusal e) in

@@ -1,4 +1,6 @@
 -- The negatives of numbers below 2 ^ 63, and answers read back from their bits.
+use Rattle.std.specs.Prelude.{Result, Ok, Err}
+use Rattle.reuse.specs.declared.refusals.Refusal.{Refusal}
 use mathlib.Core.Path.{◌≡◌, refl, ap, ◌∙◌}
 use Prim.Native.Nat.{ℕ, zero, suc, ◌<◌, ◌^◌, min}
 use native.Mathlib.Omega.{arith}
@@ -8,8 +10,6 @@ use mir.Syntax.{w64}
 use mir.Val.{SFits, to_z, of_z}
 use mir.ValLaws.{to_z-of_z}
 use Rattle.reuse.proofs.Signed.{read_pos}
-use Rattle.summary_calls.specs.declared.Written.{Written}
-use Rattle.summary_calls.specs.declared.Written.TheVariants.{Words, Refused}
 use Rattle.capi_answers.specs.Answers.{negative, counted, most_signed, counted_most, Small}
 
 -- the negative of a number
@@ -26,10 +26,10 @@ pub read_back : (x z : ℤ) → mag x < 2 ^ 63 → x ≡ z → to_z w64 (of_z w6
 read_back x z h e = to_z-of_z w64 x (record { sfits = h }) ∙ e
 
 -- a count that a signed number holds is the count itself
-small-counted : (w : Written) → Small w → counted_most w ≡ counted w
-small-counted (Words n) h = ap pos (let z : min n most_signed ≡ n = omega arith in z)
-small-counted (Refused n) h = refl
+small-counted : (w : Result ℕ Refusal) → Small w → counted_most w ≡ counted w
+small-counted (Ok n) h = ap pos (let z : min n most_signed ≡ n = omega arith in z)
+small-counted (Err n) h = refl
 
 -- so it is read back from its bits
-pub read_count : (x : ℤ) (w w' : Written) → mag x < 2 ^ 63 → x ≡ counted_most w → w ≡ w' → Small w' → to_z w64 (of_z w64 x) ≡ counted w'
+pub read_count : (x : ℤ) (w w' : Result ℕ Refusal) → mag x < 2 ^ 63 → x ≡ counted_most w → w ≡ w' → Small w' → to_z w64 (of_z w64 x) ≡ counted w'
 read_count x w w' h e same small = read_back x (counted w') h (e ∙ ap counted_most same ∙ small-counted w' small)

@@ -33,38 +33,38 @@ fn capped(n: usize) -> i64
 }
 
 // How many words were written, counted to at most the largest signed number, or the refusal.
-pub fn count(w: Written) -> i64
+pub fn count(w: Result<usize, Refusal>) -> i64
     ensures { result ≡ counted_most w }
 {
     match w {
-        Written::Words(n) => capped(n),
-        Written::Refused(n) => refusal(n),
+        Ok(n) => capped(n),
+        Err(n) => refusal(n),
     }
 }
 
 // The misses, or the refusal.
-pub fn misses(m: MissCount) -> i64
+pub fn misses(m: Result<u32, Refusal>) -> i64
     ensures { result ≡ missed m }
 {
     match m {
-        MissCount::Misses(n) => n as i64,
-        MissCount::Refused(n) => refusal(n),
+        Ok(n) => n as i64,
+        Err(n) => refusal(n),
     }
 }
 
 // 1 with the share left in its place, 0 for 'no reads', or the refusal.
-pub fn share(s: ShareAnswer, place: &mut f64) -> i64
+pub fn share(s: Result<HitShare, Refusal>, place: &mut f64) -> i64
     ensures { (result ≡ shared s) × (place.new ≡ share_left s place.old) }
 {
     match s {
-        ShareAnswer::Answered(h) => match h {
+        Ok(h) => match h {
             HitShare::Share(x) => {
                 *place = x;
                 1
             }
             HitShare::NoReads => 0,
         },
-        ShareAnswer::Refused(n) => refusal(n),
+        Err(n) => refusal(n),
     }
 }
 
@@ -91,45 +91,45 @@ pub fn read(a: Answer, sums: &mut u32, slots: &mut u32) -> i64
             *slots = slots_looked;
             distance as i64
         }
-        Answer::Refused(n) => refusal(n),
+        Err(n) => refusal(n),
     }
 }
 
 // 0 for a read that was counted, or the refusal.
-pub fn outcome(o: Outcome) -> i64
+pub fn outcome(o: Result<(), Refusal>) -> i64
     ensures { result ≡ noted o }
 {
     match o {
-        Outcome::Counted => 0,
-        Outcome::Refused(n) => refusal(n),
+        Ok(()) => 0,
+        Err(n) => refusal(n),
     }
 }
 
 // The misses in all of a split, or the refusal.
-pub fn split(a: SplitAnswer) -> i64
+pub fn split(a: Result<u32, Refusal>) -> i64
     ensures { result ≡ missed_in_all a }
 {
     match a {
-        SplitAnswer::Misses(n) => n as i64,
-        SplitAnswer::Refused(n) => refusal(n),
+        Ok(n) => n as i64,
+        Err(n) => refusal(n),
     }
 }
 
 // 0 with the change of the misses left in its place, or the refusal.
-pub fn insertion(a: InsertionAnswer, place: &mut i64) -> i64
+pub fn insertion(a: Result<i64, Refusal>, place: &mut i64) -> i64
     ensures { (result ≡ changed a) × (place.new ≡ change_left a place.old) }
 {
     match a {
-        InsertionAnswer::Change(d) => {
+        Ok(d) => {
             *place = d;
             0
         }
-        InsertionAnswer::Refused(n) => refusal(n),
+        Err(n) => refusal(n),
     }
 }
 
 // The smallest size with the number of words of H read left in its place, or the refusal.
-pub fn size(a: SizeAnswer, place: &mut u32) -> i64
+pub fn size(a: Result<SmallestCache, Refusal>, place: &mut u32) -> i64
     ensures { (result ≡ sized a) × (place.new ≡ words_left a place.old) }
 {
     match a {
@@ -137,16 +137,16 @@ pub fn size(a: SizeAnswer, place: &mut u32) -> i64
             *place = words_read;
             size as i64
         }
-        SizeAnswer::Refused(n) => refusal(n),
+        Err(n) => refusal(n),
     }
 }
 
 // 0 for a naming or a return that was done, or the refusal.
-pub fn moment(a: MomentAnswer) -> i64
+pub fn moment(a: Result<(), Refusal>) -> i64
     ensures { result ≡ done a }
 {
     match a {
-        MomentAnswer::Done => 0,
-        MomentAnswer::Refused(n) => refusal(n),
+        Ok(()) => 0,
+        Err(n) => refusal(n),
     }
 }

@@ -1,4 +1,6 @@
 -- Every call that writes words writes no more than the buffer has, and so no more than a signed number holds.
+use Rattle.std.specs.Prelude.{Result}
+use Rattle.reuse.specs.declared.refusals.Refusal.{Refusal}
 use mathlib.Core.Path.{◌≡◌, refl}
 use Prim.Native.Nat.{ℕ, ◌+◌, ◌≤◌}
 use native.Mathlib.Omega.{arith}
@@ -10,7 +12,6 @@ use borrow.Author.Tests.{leb-true}
 use Rattle.reuse.specs.Limits.{max_reads, max_extents}
 use Rattle.reuse.specs.Lists.{firsts}
 use Rattle.reuse.specs.Summary.{well_formed, reads_of, first_of, joined_first, summary_of}
-use Rattle.summary_calls.specs.declared.Written.{Written}
 use Rattle.summary_calls.specs.Calls.{Wrote, wrote, trace_call, join_call}
 use Rattle.after.specs.Calls.{after_call}
 use Rattle.session_calls.specs.Sessions as full
@@ -30,15 +31,15 @@ use Rattle.moments.specs.Names.{new_names}
 use Rattle.capi_answers.specs.Answers.{most_signed, Small}
 
 -- by a test of what has an answer: small where it holds, and small where it does not
-small-if : {A : Type 0} (answer : A → Written) (b : Bool) (x y : A) → (b ≡ true → Small (answer x)) → Small (answer y) → Small (answer (cond b x y))
+small-if : {A : Type 0} (answer : A → Result ℕ Refusal) (b : Bool) (x y : A) → (b ≡ true → Small (answer x)) → Small (answer y) → Small (answer (cond b x y))
 small-if answer true x y h k = h refl
 small-if answer false x y h k = k
 
 -- the answers of calls that write words, and of plans
-abbrev words_of : Wrote → Written
+abbrev words_of : Wrote → Result ℕ Refusal
 words_of v = v.answer
 
-abbrev ran_of : Ran → Written
+abbrev ran_of : Ran → Result ℕ Refusal
 ran_of v = v.answer
 
 -- the second of two tests that both hold

@@ -1,4 +1,6 @@
 -- The passes of the call on one more read: the reads before the place, those up to the next one of its extent, and the others.
+use Rattle.std.specs.Prelude.{Ok, Err}
+use Rattle.reuse.specs.declared.refusals.Refusal.TheVariants.{TooManyExtents}
 use mathlib.Core.Path.{◌≡◌, refl, sym, ap, ◌∙◌}
 use Prim.Native.Nat.{ℕ, suc, ◌+◌, ◌-◌, ◌≤◌, ◌<◌, min}
 use native.Mathlib.Omega.{arith}
@@ -18,7 +20,6 @@ use Rattle.reuse.proofs.Newcomers.{stack-grows}
 use Rattle.insertion_calls.specs.Insertion.{put, change_of}
 use Rattle.insertion_calls.specs.Trails.{Trail, change_by}
 use Rattle.insertion_calls.specs.Calls.{insertion_call}
-use Rattle.insertion_calls.specs.declared.InsertionAnswer.TheVariants.{Change, Refused}
 use Rattle.insertion_calls.proofs.Puts.{length-put, extents-put, mem-cut}
 use Rattle.insertion_calls.proofs.Told.{told-end, told-again}
 use Rattle.insertion_calls.proofs.Calls.{call-extents, call-change}
@@ -69,7 +70,7 @@ module _ (t : List ℕ) (p : ℕ) (placed : p ≤ length t) (short : length t �
   -- a read put in, where there is room for one more
   module _ (x c : ℕ) (room : length t < max_reads) where
     -- the trace has too many extents by itself
-    plain_over : max_extents < length (stack t) → Refused 9 ≡ insertion_call t p x c
+    plain_over : max_extents < length (stack t) → Err TooManyExtents ≡ insertion_call t p x c
     plain_over m = sym (call-extents t p x c placed room (omega (arith, extents-put p x t, length-stack t)))
 
     -- after the reads before the place
@@ -80,7 +81,7 @@ module _ (t : List ℕ) (p : ℕ) (placed : p ≤ length t) (short : length t �
       held-is = rw front-all at first.extents
 
       -- too many extents
-      pub first-over : max_extents < held → Refused 9 ≡ insertion_call t p x c
+      pub first-over : max_extents < held → Err TooManyExtents ≡ insertion_call t p x c
       first-over o = plain_over (omega (arith, held-is, ap length plain-stack, stack-grows here (drop p t) (distinct_stack (take p t))))
 
       -- not too many
@@ -118,7 +119,7 @@ module _ (t : List ℕ) (p : ℕ) (placed : p ≤ length t) (short : length t �
           -- after the reads up to the next one of x
           module _ (row₁ : List ℕ) (r : Traced) (second : Followed row held (take (length t - p) (drop p t)) x c row₁ r) where
             -- too many extents
-            pub second-over : max_extents < r.held → Refused 9 ≡ insertion_call t p x c
+            pub second-over : max_extents < r.held → Err TooManyExtents ≡ insertion_call t p x c
             second-over o = plain_over (rw plain-stack (rw (at_here, from_all) at (second.over o)))
 
             -- the next read of x is at most one past the trace's last
@@ -215,12 +216,12 @@ module _ (t : List ℕ) (p : ℕ) (placed : p ≤ length t) (short : length t �
                 longer-is = rw mem_is at (extents-put p x t)
 
                 -- too many extents
-                pub third-over : max_extents < cond (ltb ahead held || again) 0 1 + held₂ → Refused 9 ≡ insertion_call t p x c
+                pub third-over : max_extents < cond (ltb ahead held || again) 0 1 + held₂ → Err TooManyExtents ≡ insertion_call t p x c
                 third-over o = sym (call-extents t p x c placed room (omega (arith, longer-is, all_held)))
 
                 -- not too many: the change
                 pub change-told : cond (ltb ahead held || again) 0 1 + held₂ ≤ max_extents
-                    → Change (change_by (ltb ahead held) again (ahead + 1) r.marks.since r.marks.depth r.marks.spoiled c) ≡ insertion_call t p x c
+                    → Ok (change_by (ltb ahead held) again (ahead + 1) r.marks.since r.marks.depth r.marks.spoiled c) ≡ insertion_call t p x c
                 change-told few₂ =
-                    ap Change (sym change-is)
+                    ap Ok (sym change-is)
                     ∙ sym (call-change t p x c placed (record { reads = omega (arith, length-put p x t); extents = omega (arith, longer-is, all_held) }))

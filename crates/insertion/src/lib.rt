@@ -10,20 +10,20 @@ pub use insertion_calls::InsertionAnswer;
 
 // The misses of a cache of this size with a read of the extent put into the trace at the place, less those without it.
 // One stack goes through the trace without the read; marks tell what the read changes, until its extent is read again.
-pub fn one_more(trace: &[u32], place: usize, extent: u32, size: u32) -> InsertionAnswer
+pub fn one_more(trace: &[u32], place: usize, extent: u32, size: u32) -> Result<i64, Refusal>
     ensures { result ≡ insertion_call trace.now place extent size }
 {
     let reads = trace.len();
     if reads < place {
-        return InsertionAnswer::Refused(2);
+        return Err(Refusal::OutOfRange);
     }
     if (reuse::MAX_READS as usize) <= reads {
-        return InsertionAnswer::Refused(8);
+        return Err(Refusal::TooManyReads);
     }
     let mut stack = [0u32; reuse::MAX_EXTENTS];
     let before = passes::hold(&mut stack, 0, &trace[0..place]);
     if reuse::MAX_EXTENTS < before {
-        return InsertionAnswer::Refused(9);
+        return Err(Refusal::TooManyExtents);
     }
     let ahead = passes::ahead(&stack[0..before], extent);
     let traced = passes::follow(
@@ -35,7 +35,7 @@ pub fn one_more(trace: &[u32], place: usize, extent: u32, size: u32) -> Insertio
         ahead,
     );
     if reuse::MAX_EXTENTS < traced.held {
-        return InsertionAnswer::Refused(9);
+        return Err(Refusal::TooManyExtents);
     }
     let next = place + traced.taken;
     let held = passes::hold(&mut stack, traced.held, &trace[next..reads]);
@@ -43,7 +43,7 @@ pub fn one_more(trace: &[u32], place: usize, extent: u32, size: u32) -> Insertio
     let again = next < reads;
     let over = reuse::MAX_EXTENTS < passes::extents_with(held, known, again);
     if over {
-        return InsertionAnswer::Refused(9);
+        return Err(Refusal::TooManyExtents);
     }
-    InsertionAnswer::Change(passes::change(known, again, ahead + 1, traced.marks, size as usize))
+    Ok(passes::change(known, again, ahead + 1, traced.marks, size as usize))
 }

@@ -1,4 +1,6 @@
 -- Worked examples, computed from the definitions.
+use Rattle.std.specs.Prelude.{Ok, Err}
+use Rattle.reuse.specs.declared.refusals.Refusal.TheVariants.{OutOfRange}
 use mathlib.Core.Path.{◌≡◌, refl}
 use mathlib.Core.List.{[], ◌∷◌}
 use lib.IntN.{pos, neg_ℤ}
@@ -8,7 +10,6 @@ use Rattle.reuse.specs.Cache.{last_read, oldest, evict, admit, hits, cache_hits,
 use Rattle.insertion_calls.specs.Insertion.{put, change_of}
 use Rattle.insertion_calls.specs.Ends.{rounds, late_again}
 use Rattle.insertion_calls.specs.Calls.{insertion_call}
-use Rattle.insertion_calls.specs.declared.InsertionAnswer.TheVariants.{Change, Refused}
 
 -- a place is counted from 0: 9 put into 7 8 at 0, at 1 and at 2, the end
 pub places : (put 0 9 (7 ∷ 8 ∷ []) ≡ 9 ∷ 7 ∷ 8 ∷ []) × (put 1 9 (7 ∷ 8 ∷ []) ≡ 7 ∷ 9 ∷ 8 ∷ []) × (put 2 9 (7 ∷ 8 ∷ []) ≡ 7 ∷ 8 ∷ 9 ∷ [])
@@ -41,6 +42,6 @@ unfolding change_of put misses_at count reuses depth touch remove
 ends = (refl, refl)
 
 -- the call for the first, and for a place past the end
-pub called : (insertion_call (4 ∷ 4 ∷ []) 1 5 1 ≡ Change (pos 2)) × (insertion_call (4 ∷ 4 ∷ []) 3 5 1 ≡ Refused 2)
+pub called : (insertion_call (4 ∷ 4 ∷ []) 1 5 1 ≡ Ok (pos 2)) × (insertion_call (4 ∷ 4 ∷ []) 3 5 1 ≡ Err OutOfRange)
 unfolding insertion_call change_of put firsts misses_at count reuses depth touch remove
 called = (refl, refl)

@@ -1,4 +1,5 @@
 -- Both ends of the range are reached by logs of small numbers, in the call too where the limits allow.
+use Rattle.std.specs.Prelude.{Ok}
 use mathlib.Core.Path.{◌≡◌, refl, ap, ◌∙◌}
 use Prim.Native.Nat.{ℕ, zero, suc, ◌+◌, ◌≤◌, ◌<◌}
 use native.Mathlib.Omega.{arith}
@@ -18,7 +19,6 @@ use Rattle.reuse.proofs.Counts.{length_from, from-snoc}
 use Rattle.insertion_calls.specs.Insertion.{put, change_of}
 use Rattle.insertion_calls.specs.Ends.{rounds, late_again}
 use Rattle.insertion_calls.specs.Calls.{insertion_call}
-use Rattle.insertion_calls.specs.declared.InsertionAnswer.TheVariants.{Change}
 use Rattle.insertion_calls.proofs.Puts.{length-put, mem-put}
 use Rattle.insertion_calls.proofs.Ends.{upper-end, lower-end}
 use Rattle.insertion_calls.proofs.Calls.{call-change}
@@ -65,10 +65,10 @@ module _ (p x n : ℕ) (t : List ℕ) (these : (z : ℕ) → mem z (t ++ (x ∷ 
       )
 
   -- so the call answers, where the log is short and n within the limit
-  call-answers : p ≤ length t → length t < max_reads → n ≤ max_extents → (c : ℕ) (d : ℤ) → change_of c p x t ≡ d → insertion_call t p x c ≡ Change d
+  call-answers : p ≤ length t → length t < max_reads → n ≤ max_extents → (c : ℕ) (d : ℤ) → change_of c p x t ≡ d → insertion_call t p x c ≡ Ok d
   call-answers l s f c d e =
       call-change t p x c l (record { reads = omega (arith, length-put p x t); extents = omega (arith, extents-most) })
-      ∙ ap Change e
+      ∙ ap Ok e
 
 -- what a log and one read more read, by a list that is known
 last-known : (z x : ℕ) (a b : List ℕ) → (mem z a ≡ true → mem z b ≡ true) → mem x b ≡ true → mem z (a ++ (x ∷ [])) ≡ true → mem z b ≡ true
@@ -91,7 +91,7 @@ earlier-in z c m = rw (from-snoc 1 c) (rw (mem-append z (from 1 c) ((1 + c) ∷ 
 -- within the limit of extents
 module _ (c : ℕ) (few : c < max_extents) where
   -- the call reaches the upper end
-  pub upper-called : insertion_call (rounds c) c (suc c) c ≡ Change (pos (c + 1))
+  pub upper-called : insertion_call (rounds c) c (suc c) c ≡ Ok (pos (c + 1))
   unfolding rounds
   upper-called =
       let n : length (from 1 c) ≡ c = length_from 1 c in
@@ -102,7 +102,7 @@ module _ (c : ℕ) (few : c < max_extents) where
       c (pos (c + 1)) (upper-reached c)
 
   -- and from size 2 up the lower one
-  pub lower-called : 2 ≤ c → insertion_call (late_again c) 2 1 c ≡ Change (neg_ℤ (pos 1))
+  pub lower-called : 2 ≤ c → insertion_call (late_again c) 2 1 c ≡ Ok (neg_ℤ (pos 1))
   unfolding late_again mem from
   lower-called l =
       let n : length (from 1 (suc c)) ≡ suc c = length_from 1 (suc c) in

@@ -1,4 +1,7 @@
 -- Each refusal of the call on one more read is given exactly under its condition, in order.
+use Rattle.std.specs.Prelude.{Result, Ok, Err}
+use Rattle.reuse.specs.declared.refusals.Refusal.{Refusal}
+use Rattle.reuse.specs.declared.refusals.Refusal.TheVariants.{OutOfRange, TooManyReads, TooManyExtents}
 use mathlib.Core.Path.{◌≡◌, refl, sym, ap}
 use mathlib.Core.Logic.{◌↔◌}
 use Prim.Native.Nat.{ℕ, ◌≤◌}
@@ -15,18 +18,16 @@ use Rattle.reuse.proofs.Tests.{exactly-first, exactly-second, exactly-third}
 use Rattle.insertion_calls.specs.Insertion.{put, change_of}
 use Rattle.insertion_calls.specs.Calls.{insertion_call}
 use Rattle.insertion_calls.specs.Refusals.{insertion_refusal, Refusals}
-use Rattle.insertion_calls.specs.declared.InsertionAnswer.{InsertionAnswer}
-use Rattle.insertion_calls.specs.declared.InsertionAnswer.TheVariants.{Change, Refused}
 
 -- the number in an answer that is a change
-abbrev change_in : InsertionAnswer → ℤ
-change_in (Change d) = d
-change_in (Refused n) = pos 0
+abbrev change_in : Result ℤ Refusal → ℤ
+change_in (Ok d) = d
+change_in (Err n) = pos 0
 
 -- a change after three tests, each looked at after those before it
 module _ (d : ℤ) where
-  abbrev answer_by : Bool → Bool → Bool → InsertionAnswer
-  answer_by p q r = cond p (cond q (cond r (Change d) (Refused 9)) (Refused 8)) (Refused 2)
+  abbrev answer_by : Bool → Bool → Bool → Result ℤ Refusal
+  answer_by p q r = cond p (cond q (cond r (Ok d) (Err TooManyExtents)) (Err TooManyReads)) (Err OutOfRange)
 
   -- its refusal's number
   number : (p q r : Bool) → insertion_refusal (answer_by p q r) ≡ cond p (cond q (cond r 0 9) 8) 2
@@ -36,14 +37,14 @@ module _ (d : ℤ) where
   number false q r = refl
 
   -- the change where none fails
-  none-fails : (p q r : Bool) → answer_by p q r ≡ Change d ↔ ((p ≡ true) × (q ≡ true) × (r ≡ true))
+  none-fails : (p q r : Bool) → answer_by p q r ≡ Ok d ↔ ((p ≡ true) × (q ≡ true) × (r ≡ true))
   none-fails true true true = (λ e. (refl, refl, refl), λ e. refl)
   none-fails true true false = (λ e. absurd (omega (arith, ap insertion_refusal e)), λ e. absurd (false≢true e.2))
   none-fails true false r = (λ e. absurd (omega (arith, ap insertion_refusal e)), λ e. absurd (false≢true e.1))
   none-fails false q r = (λ e. absurd (omega (arith, ap insertion_refusal e)), λ e. absurd (false≢true e.0))
 
   -- no other change is answered
-  only-change : (e : ℤ) (p q r : Bool) → answer_by p q r ≡ Change e → e ≡ d
+  only-change : (e : ℤ) (p q r : Bool) → answer_by p q r ≡ Ok e → e ≡ d
   only-change e true true true h = sym (ap change_in h)
   only-change e true true false h = absurd (omega (arith, ap insertion_refusal h))
   only-change e true false r h = absurd (omega (arith, ap insertion_refusal h))
@@ -81,7 +82,7 @@ module _ (log : List ℕ) (place x c : ℕ) where
   extents-in = le-leb (length (firsts (put place x log))) max_extents
 
   -- a change answered is the one defined
-  pub change-is : (d : ℤ) → insertion_call log place x c ≡ Change d → d ≡ change_of c place x log
+  pub change-is : (d : ℤ) → insertion_call log place x c ≡ Ok d → d ≡ change_of c place x log
   unfolding insertion_call
   change-is d = only-change (change_of c place x log) d placed short few
 

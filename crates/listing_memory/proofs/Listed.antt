@@ -1,4 +1,6 @@
 -- A text listed in memory: by the verdict on it.
+use Rattle.std.specs.Prelude.{Ok}
+use Rattle.reuse.specs.declared.refusals.Refusal.TheVariants.{NoRoom}
 use mathlib.Core.Path.{◌≡◌, refl, sym, ap, ◌∙◌}
 use Prim.Native.Nat.{ℕ, ◌≤◌, ◌<◌}
 use native.Mathlib.Omega.{arith}
@@ -7,7 +9,6 @@ use mathlib.Core.List.{List}
 use lib.ListN.{length, take}
 use lib.Seq.{length-take-le}
 use Rattle.reuse_rows.specs.Rows.{put_at}
-use Rattle.summary_calls.specs.declared.Written.TheVariants.{Words}
 use Rattle.summary_calls.specs.Calls.{wrote, refused}
 use Rattle.summary_calls.proofs.Calls.{wrote-short, wrote-all}
 use Rattle.texts.specs.Lines.{Read, got, refused as faulty}
@@ -56,9 +57,9 @@ module _ (buffer : List ℕ) where
       page-length = sym (ap (length {A = ℕ}) same) ∙ length-take-le n page fits
 
       -- a buffer that is too short for it
-      pub list-short : length buffer < n → list_call text buffer ≡ refused 6 buffer
+      pub list-short : length buffer < n → list_call text buffer ≡ refused NoRoom buffer
       list-short l = by-listed e ∙ wrote-short (listing_of text) buffer (omega (arith, page-length))
 
       -- one that is not
-      pub list_all : n ≤ length buffer → list_call text buffer ≡ record { answer = Words n; buffer = put_at buffer 0 (listing_of text) }
+      pub list_all : n ≤ length buffer → list_call text buffer ≡ record { answer = Ok n; buffer = put_at buffer 0 (listing_of text) }
       list_all l = by-listed e ∙ wrote-all (listing_of text) buffer n page-length l

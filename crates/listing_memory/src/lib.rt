@@ -8,24 +8,24 @@ use listing::{Lister, Verdict};
 use summary_calls::Written;
 
 // The listing of a log text, at the front of `out`.
-pub fn list(text: &[u8], out: &mut [u8]) -> Written
+pub fn list(text: &[u8], out: &mut [u8]) -> Result<usize, Refusal>
     ensures { (result ≡ (list_call text.now out.old).answer) × (out.new ≡ (list_call text.now out.old).buffer) }
 {
     let empty = Lister::new();
     let lister = empty.feed(text);
     let verdict = lister.verdict();
     match verdict {
-        Verdict::Refused(n) => Written::Refused(n),
+        Verdict::Refused(n) => Err(n),
         Verdict::Listed => {
             let page = lister.finish();
             let len = page.len;
             let bytes = page.bytes;
             let short = out.len() < len;
             if short {
-                return Written::Refused(6);
+                return Err(Refusal::NoRoom);
             }
             reuse_copies::put_bytes(out, 0, &bytes[..len]);
-            Written::Words(len)
+            Ok(len)
         }
     }
 }

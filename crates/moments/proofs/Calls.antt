@@ -1,4 +1,6 @@
 -- The calls on named moments, case by case.
+use Rattle.std.specs.Prelude.{Ok}
+use Rattle.reuse.specs.declared.refusals.Refusal.TheVariants.{OutOfRange, NoRoom, Unsound, NameNotSet}
 use mathlib.Core.Path.{◌≡◌, refl, sym, ap, ◌∙◌}
 use Prim.Native.Nat.{ℕ, ◌+◌, ◌<◌, ◌≤◌}
 use native.Mathlib.Omega.{arith}
@@ -9,55 +11,53 @@ use lib.Seq.{length-take-le}
 use borrow.Author.Tests.{le-leb, lt-leb}
 use Rattle.reuse.proofs.Sums.{get_or-blank-row}
 use Rattle.reuse_rows.specs.Rows.{put_at}
-use Rattle.summary_calls.specs.declared.Written.TheVariants.{Words}
 use Rattle.summary_calls.specs.Calls.{refused}
 use Rattle.summary_calls.proofs.Calls.{wrote-short, wrote-all}
 use Rattle.session.specs.declared.Session.{Session}
 use Rattle.session.specs.Sessions.{sound}
-use Rattle.moments.specs.declared.MomentAnswer.TheVariants.{Done}
 use Rattle.moments.specs.Names.{place_length, names_length, is_name, place_start, lies, is_set, session_under, named_in, unnamed, new_names, Named, not_named, name_call, not_returned, return_call}
 
 module _ (s : Session) (names : List ℕ) (k : ℕ) where
   -- a number that is no name
   module _ (not-one : is_name k ≡ false) where
-    pub name-not : name_call s names k ≡ not_named 2 names
+    pub name-not : name_call s names k ≡ not_named OutOfRange names
     unfolding name_call
     name-not = simp not-one
 
-    pub return-not : return_call s names k ≡ not_returned 2 s
+    pub return-not : return_call s names k ≡ not_returned OutOfRange s
     unfolding return_call
     return-not = simp not-one
 
   module _ (is : is_name k ≡ true) where
     -- a session that is not sound is not named
-    pub name-unsound : sound s ≡ false → name_call s names k ≡ not_named 7 names
+    pub name-unsound : sound s ≡ false → name_call s names k ≡ not_named Unsound names
     unfolding name_call
     name-unsound e = simp (is, e)
 
     module _ (ok : sound s ≡ true) where
       -- a place past the words
-      pub name-short : lies (length names) k ≡ false → name_call s names k ≡ not_named 6 names
+      pub name-short : lies (length names) k ≡ false → name_call s names k ≡ not_named NoRoom names
       unfolding name_call
       name-short e = simp (is, ok, e)
 
       -- a sound session is put under a name whose place lies within the words
-      pub name_done : lies (length names) k ≡ true → name_call s names k ≡ record { answer = Done; names = named_in names k s }
+      pub name_done : lies (length names) k ≡ true → name_call s names k ≡ record { answer = Ok tt; names = named_in names k s }
       unfolding name_call
       name_done e = simp (is, ok, e)
 
     -- a name that is not set
-    pub return-unset : is_set names k ≡ false → return_call s names k ≡ not_returned 11 s
+    pub return-unset : is_set names k ≡ false → return_call s names k ≡ not_returned NameNotSet s
     unfolding return_call
     return-unset e = simp (is, e)
 
     module _ (set : is_set names k ≡ true) where
       -- a session under it that is not sound
-      pub return-unsound : sound (session_under names k) ≡ false → return_call s names k ≡ not_returned 7 s
+      pub return-unsound : sound (session_under names k) ≡ false → return_call s names k ≡ not_returned Unsound s
       unfolding return_call
       return-unsound e = simp (is, set, e)
 
       -- a sound one is returned to, whatever session is present
-      pub return-done : sound (session_under names k) ≡ true → return_call s names k ≡ record { session = session_under names k; answer = Done }
+      pub return-done : sound (session_under names k) ≡ true → return_call s names k ≡ record { session = session_under names k; answer = Ok tt }
       unfolding return_call
       return-done e = simp (is, set, e)
 
@@ -90,7 +90,7 @@ unnamed-at = blank-at names_length unnamed unnamed-blank
 
 -- words in which no name is set: too few, or enough
 module _ (names : List ℕ) where
-  pub new-short : length names < names_length → new_names names ≡ refused 6 names
+  pub new-short : length names < names_length → new_names names ≡ refused NoRoom names
   unfolding new_names
   new-short h = wrote-short unnamed names (omega (arith, h, unnamed-length))
 
@@ -100,18 +100,18 @@ module _ (names : List ℕ) where
   put_front = let z : 0 + length unnamed ≡ length unnamed = omega arith in ap (λ (n : ℕ). unnamed ++ drop n names) (z ∙ unnamed-length)
 
   -- new words at the front, the rest as it was
-  pub new-laid : names_length ≤ length names → new_names names ≡ record { answer = Words names_length; buffer = unnamed ++ drop names_length names }
+  pub new-laid : names_length ≤ length names → new_names names ≡ record { answer = Ok names_length; buffer = unnamed ++ drop names_length names }
   unfolding new_names
   new-laid h =
       wrote-all unnamed names names_length unnamed-length h
-      ∙ ap (λ (b : List ℕ). record { answer = Words names_length; buffer = b }) put_front
+      ∙ ap (λ (b : List ℕ). record { answer = Ok names_length; buffer = b }) put_front
 
   -- the front is cleared, the rest is as it was
   pub new-all : names_length ≤ length names → (y : List ℕ) → y ≡ replicate (length (take names_length names)) 0
-      → new_names names ≡ record { answer = Words names_length; buffer = y ++ drop names_length names }
+      → new_names names ≡ record { answer = Ok names_length; buffer = y ++ drop names_length names }
   new-all h y e =
       new-laid h
-      ∙ ap (λ (l : List ℕ). record { answer = Words names_length; buffer = l ++ drop names_length names })
+      ∙ ap (λ (l : List ℕ). record { answer = Ok names_length; buffer = l ++ drop names_length names })
       (blank-front names_length unnamed unnamed-blank names h ∙ sym e)
 
 module _ (lent k : ℕ) where

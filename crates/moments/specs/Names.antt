@@ -1,13 +1,13 @@
 -- Named moments (02, ask 5): a place for each name in words that the caller lends, and the calls on them.
-use Rattle.std.specs.Prelude.{ℕ, ◌+◌, ◌-◌, ◌*◌, Bool, cond, not, ◌&&◌, List, ◌∷◌, eqb, leb, length, drop, get_or, replicate}
+use Rattle.std.specs.Prelude.{ℕ, ◌+◌, ◌-◌, ◌*◌, Bool, cond, not, ◌&&◌, List, ◌∷◌, eqb, leb, length, drop, get_or, replicate, Result, Ok, Err}
+use Rattle.reuse.specs.declared.refusals.Refusal.{Refusal}
+use Rattle.reuse.specs.declared.refusals.Refusal.TheVariants.{OutOfRange, NoRoom, Unsound, NameNotSet}
 use Rattle.reuse.specs.Limits.{max_names}
 use Rattle.reuse_rows.specs.Rows.{put_at}
 use Rattle.summary_calls.specs.Calls.{Wrote, wrote}
 use Rattle.session.specs.declared.Session.{Session}
 use Rattle.session.specs.Sessions.{sound}
 use Rattle.session_layout.specs.Layout.{session_length, part, session_in, session_laid}
-use Rattle.moments.specs.declared.MomentAnswer.{MomentAnswer}
-use Rattle.moments.specs.declared.MomentAnswer.TheVariants.{Done, Refused}
 use Rattle.moments.specs.declared.Returned.{Returned}
 
 -- the words of one place: whether its name is set, then a session's words
@@ -56,12 +56,12 @@ new_names names = wrote unnamed names
 
 -- a naming's answer, and the words after it
 pub record Named : Type 0 where
-  pub answer : MomentAnswer
+  pub answer : Result Unit Refusal
   pub names : List ℕ
 
 -- a naming that is refused leaves every word
-abbrev pub not_named : ℕ → List ℕ → Named
-not_named n names = record { answer = Refused n; names = names }
+abbrev pub not_named : Refusal → List ℕ → Named
+not_named n names = record { answer = Err n; names = names }
 
 -- the session is put under name k: 2 for a number that is no name, 7 for a session that is not sound, 6 for a place that
 -- does not lie within the words
@@ -70,14 +70,14 @@ name_call s names k =
     cond (is_name k)
     (cond (sound s)
     (cond (lies (length names) k)
-    (record { answer = Done; names = named_in names k s })
-    (not_named 6 names))
-    (not_named 7 names))
-    (not_named 2 names)
+    (record { answer = Ok tt; names = named_in names k s })
+    (not_named NoRoom names))
+    (not_named Unsound names))
+    (not_named OutOfRange names)
 
 -- a return that is refused leaves the present session
-abbrev pub not_returned : ℕ → Session → Returned
-not_returned n s = record { session = s; answer = Refused n }
+abbrev pub not_returned : Refusal → Session → Returned
+not_returned n s = record { session = s; answer = Err n }
 
 -- the session under name k becomes the present one: 2 for a number that is no name, 11 for a name that is not set in these
 -- words, 7 for a session under it that is not sound; whatever the present one is
@@ -86,7 +86,7 @@ return_call s names k =
     cond (is_name k)
     (cond (is_set names k)
     (cond (sound (session_under names k))
-    (record { session = session_under names k; answer = Done })
-    (not_returned 7 s))
-    (not_returned 11 s))
-    (not_returned 2 s)
+    (record { session = session_under names k; answer = Ok tt })
+    (not_returned Unsound s))
+    (not_returned NameNotSet s))
+    (not_returned OutOfRange s)

@@ -1,15 +1,14 @@
 -- When a naming and a return are refused: each number exactly under its condition, looked at after those before it.
-use Rattle.std.specs.Prelude.{ℕ, ◌≡◌, ◌↔◌, ◌≢◌, true, false, List, length}
+use Rattle.std.specs.Prelude.{ℕ, ◌≡◌, ◌↔◌, ◌≢◌, true, false, List, length, Result, Ok, Err}
+use Rattle.reuse.specs.declared.refusals.Refusal.{Refusal}
 use Rattle.session.specs.declared.Session.{Session}
 use Rattle.session.specs.Sessions.{sound}
-use Rattle.moments.specs.declared.MomentAnswer.{MomentAnswer}
-use Rattle.moments.specs.declared.MomentAnswer.TheVariants.{Done, Refused}
 use Rattle.moments.specs.Names.{is_name, lies, is_set, session_under, name_call, return_call}
 
 -- the refusal's number, 0 where there is none
-abbrev pub moment_refusal : MomentAnswer → ℕ
-moment_refusal Done = 0
-moment_refusal (Refused n) = n
+abbrev pub moment_refusal : Result Unit Refusal → ℕ
+moment_refusal (Ok tt) = 0
+moment_refusal (Err r) = number_of r
 
 -- of every naming
 pub record NamingRefusals (s : Session) (names : List ℕ) (k : ℕ) : Type 0 where

@@ -25,7 +25,7 @@ pub enum MomentAnswer {
 #[derive(Drop)]
 pub struct Returned {
     pub session: Session,
-    pub answer: MomentAnswer,
+    pub answer: Result<(), Refusal>,
 }
 
 // Whether the number is a name.
@@ -62,38 +62,38 @@ fn is_set(names: &[u32], name: u32) -> bool
 }
 
 // Words in which no name is set, at the front of the row.
-pub fn new_names(names: &mut [u32]) -> Written
+pub fn new_names(names: &mut [u32]) -> Result<usize, Refusal>
     ensures { (result ≡ (new_names names.old).answer) × (names.new ≡ (new_names names.old).buffer) }
 {
     if names.len() < NAMES {
-        return Written::Refused(6);
+        return Err(Refusal::NoRoom);
     }
     reuse_copies::clear(&mut names[..NAMES]);
-    Written::Words(NAMES)
+    Ok(NAMES)
 }
 
 // The session is put under the name.
-pub fn name_session(s: Session, names: &mut [u32], name: u32) -> MomentAnswer
+pub fn name_session(s: Session, names: &mut [u32], name: u32) -> Result<(), Refusal>
     ensures { (result ≡ (name_call s names.old name).answer) × (names.new ≡ (name_call s names.old name).names) }
 {
     let named = is_name(name);
     let ok = s.sound();
     if !named {
-        return MomentAnswer::Refused(2);
+        return Err(Refusal::OutOfRange);
     }
     let unsound = !ok;
     if unsound {
-        return MomentAnswer::Refused(7);
+        return Err(Refusal::Unsound);
     }
     let start = place_start(name);
     let end = start + PLACE;
     if names.len() < end {
-        return MomentAnswer::Refused(6);
+        return Err(Refusal::NoRoom);
     }
     names[start] = 1;
     let from = start + 1;
     session_layout::put_session(&mut names[from..end], s);
-    MomentAnswer::Done
+    Ok(())
 }
 
 // The session under the name becomes the present one.
@@ -107,13 +107,13 @@ pub fn return_to(s: Session, names: &[u32], name: u32) -> Returned
     if none {
         return Returned {
             session: s,
-            answer: MomentAnswer::Refused(2),
+            answer: Err(Refusal::OutOfRange),
         };
     }
     if unset {
         return Returned {
             session: s,
-            answer: MomentAnswer::Refused(11),
+            answer: Err(Refusal::NameNotSet),
         };
     }
     let start = place_start(name);
@@ -125,11 +125,11 @@ pub fn return_to(s: Session, names: &[u32], name: u32) -> Returned
     if !whole {
         return Returned {
             session: s,
-            answer: MomentAnswer::Refused(7),
+            answer: Err(Refusal::Unsound),
         };
     }
     Returned {
         session: remembered,
-        answer: MomentAnswer::Done,
+        answer: Ok(()),
     }
 }

@@ -1,4 +1,7 @@
 -- Named moments of a session in lent words, case by case, and as by value.
+use Rattle.std.specs.Prelude.{Result, Ok, Err}
+use Rattle.reuse.specs.declared.refusals.Refusal.{Refusal}
+use Rattle.reuse.specs.declared.refusals.Refusal.TheVariants.{OutOfRange, NoRoom, Unsound, NameNotSet}
 use mathlib.Core.Path.{◌≡◌, refl, sym, ap, ◌∙◌}
 use Prim.Native.Nat.{ℕ, ◌≤◌, ◌<◌}
 use native.Mathlib.Omega.{arith}
@@ -12,8 +15,6 @@ use Rattle.session.specs.Sessions.{Wide, sound}
 use Rattle.session.specs.declared.Session.{Session}
 use Rattle.session_layout.specs.Layout.{session_length, session_in, session_laid}
 use Rattle.session_layout.proofs.Laid.{laid-row, laid-read, laid-over}
-use Rattle.moments.specs.declared.MomentAnswer.{MomentAnswer}
-use Rattle.moments.specs.declared.MomentAnswer.TheVariants.{Done, Refused}
 use Rattle.moments.specs.declared.Returned.{Returned}
 use Rattle.moments.specs.Names.{is_name, is_set, session_under, not_named, name_call, return_call}
 use Rattle.moments.proofs.Calls.{name-not}
@@ -22,13 +23,13 @@ use Rattle.moments_words.specs.Calls.{name_in, Came, not_came, return_in, is_don
 
 module _ (w names : List ℕ) (k : ℕ) where
   -- a number that is no name
-  pub in-not : is_name k ≡ false → name_in w names k ≡ not_named 2 names
+  pub in-not : is_name k ≡ false → name_in w names k ≡ not_named OutOfRange names
   unfolding name_in
   in-not e = simp e
 
   module _ (is : is_name k ≡ true) where
     -- no session to name
-    pub in-short : length w < session_length → name_in w names k ≡ not_named 7 names
+    pub in-short : length w < session_length → name_in w names k ≡ not_named Unsound names
     unfolding name_in
     in-short h = simp (is, lt-leb session_length (length w) h)
 
@@ -38,9 +39,9 @@ module _ (w names : List ℕ) (k : ℕ) where
     in_all h = simp (is, le-leb session_length (length w) h)
 
 -- the words after a return, by what it answers
-abbrev came_by : MomentAnswer → Session → List ℕ → Came
-came_by Done s w = cond (leb session_length (length w)) (record { answer = Done; words = put_at w 0 (session_laid s) }) (not_came 6 w)
-came_by (Refused n) s w = not_came n w
+abbrev came_by : Result Unit Refusal → Session → List ℕ → Came
+came_by (Ok tt) s w = cond (leb session_length (length w)) (record { answer = Ok tt; words = put_at w 0 (session_laid s) }) (not_came NoRoom w)
+came_by (Err n) s w = not_came n w
 
 -- a return, whatever session is present
 came : (w names : List ℕ) (k : ℕ) (s : Session) → return_in w names k ≡ came_by (return_call s names k).answer (return_call s names k).session w
@@ -48,7 +49,7 @@ unfolding return_in return_call
 came w names k s = by (is_name k) (is_set names k) (sound (session_under names k))
   where
     -- by the three tests
-    by : (a b c : Bool) → cond a (cond b (cond c (came_by Done (session_under names k) w) (not_came 7 w)) (not_came 11 w)) (not_came 2 w)
+    by : (a b c : Bool) → cond a (cond b (cond c (came_by (Ok tt) (session_under names k) w) (not_came Unsound w)) (not_came NameNotSet w)) (not_came OutOfRange w)
         ≡ came_by (returned_by s names k a b c).answer (returned_by s names k a b c).session w
     by true true true = refl
     by true true false = refl
@@ -64,26 +65,26 @@ module _ (w names : List ℕ) (k : ℕ) (s : Session) (r : Returned) (e : r ≡ 
   pub came_refused : is_done r.answer ≡ false → return_in w names k ≡ record { answer = r.answer; words = w }
   came_refused h = from-value ∙ by r.answer h
     where
-      by : (a : MomentAnswer) → is_done a ≡ false → came_by a r.session w ≡ record { answer = a; words = w }
-      by Done q = absurd (true≢false q)
-      by (Refused n) q = refl
+      by : (a : Result Unit Refusal) → is_done a ≡ false → came_by a r.session w ≡ record { answer = a; words = w }
+      by (Ok tt) q = absurd (true≢false q)
+      by (Err n) q = refl
 
   module _ (h : is_done r.answer ≡ true) where
     -- no room for the session
-    pub came-short : length w < session_length → return_in w names k ≡ not_came 6 w
+    pub came-short : length w < session_length → return_in w names k ≡ not_came NoRoom w
     came-short l = from-value ∙ by r.answer h
       where
-        by : (a : MomentAnswer) → is_done a ≡ true → came_by a r.session w ≡ not_came 6 w
-        by Done q = simp (lt-leb session_length (length w) l)
-        by (Refused n) q = absurd (false≢true q)
+        by : (a : Result Unit Refusal) → is_done a ≡ true → came_by a r.session w ≡ not_came NoRoom w
+        by (Ok tt) q = simp (lt-leb session_length (length w) l)
+        by (Err n) q = absurd (false≢true q)
 
     -- the session's words are put
     pub came-all : session_length ≤ length w → return_in w names k ≡ record { answer = r.answer; words = put_at w 0 (session_laid r.session) }
     came-all l = from-value ∙ by r.answer h
       where
-        by : (a : MomentAnswer) → is_done a ≡ true → came_by a r.session w ≡ record { answer = a; words = put_at w 0 (session_laid r.session) }
-        by Done q = simp (le-leb session_length (length w) l)
-        by (Refused n) q = absurd (false≢true q)
+        by : (a : Result Unit Refusal) → is_done a ≡ true → came_by a r.session w ≡ record { answer = a; words = put_at w 0 (session_laid r.session) }
+        by (Ok tt) q = simp (le-leb session_length (length w) l)
+        by (Err n) q = absurd (false≢true q)
 
 -- the answer of a return and the words after it, apart
 pub apart : (v w : Came) → v ≡ w → (w.answer ≡ v.answer) × (w.words ≡ v.words)
@@ -108,9 +109,9 @@ module _ (s : Session) (wide : Wide s) (w : List ℕ) (l : session_length ≤ le
   return_kept v = came (put_at w 0 (session_laid s)) names k s ∙ by (return_call s names k).answer refl
     where
       -- by the answer
-      by : (a : MomentAnswer) → (return_call s names k).answer ≡ a
+      by : (a : Result Unit Refusal) → (return_call s names k).answer ≡ a
           → came_by a (return_call s names k).session (put_at w 0 (session_laid s)) ≡ record { answer = a; words = put_at w 0 (session_laid (return_call s names k).session) }
-      by Done e =
+      by (Ok tt) e =
           simp (le-leb session_length (length (put_at w 0 (session_laid s))) (omega (arith, l, laid-row s wide w l)))
-          (ap (λ (r : List ℕ). record { answer = Done; words = r }) (laid-over s (return_call s names k).session wide v w l))
-      by (Refused n) e = ap (λ (t : Session). record { answer = Refused n; words = put_at w 0 (session_laid t) }) (sym (returned-same s names k n e))
+          (ap (λ (r : List ℕ). record { answer = Ok tt; words = r }) (laid-over s (return_call s names k).session wide v w l))
+      by (Err n) e = ap (λ (t : Session). record { answer = Err n; words = put_at w 0 (session_laid t) }) (sym (returned-same s names k n e))

@@ -1,4 +1,7 @@
 -- Each refusal of a naming and of a return in lent words is given exactly under its condition, in order, and leaves every word.
+use Rattle.std.specs.Prelude.{Result, Ok, Err}
+use Rattle.reuse.specs.declared.refusals.Refusal.{Refusal}
+use Rattle.reuse.specs.declared.refusals.Refusal.TheVariants.{OutOfRange, NoRoom, Unsound, NameNotSet}
 use mathlib.Core.Path.{◌≡◌, refl}
 use mathlib.Core.Logic.{◌↔◌}
 use Prim.Native.Nat.{ℕ}
@@ -12,8 +15,6 @@ use Rattle.reuse.proofs.Tests.{exactly-first, exactly-second, exactly-third, exa
 use Rattle.reuse_rows.specs.Rows.{put_at}
 use Rattle.session.specs.Sessions.{sound}
 use Rattle.session_layout.specs.Layout.{session_length, session_in, session_laid}
-use Rattle.moments.specs.declared.MomentAnswer.{MomentAnswer}
-use Rattle.moments.specs.declared.MomentAnswer.TheVariants.{Done, Refused}
 use Rattle.moments.specs.Names.{is_name, lies, is_set, session_under, Named, not_named, name_call}
 use Rattle.moments.specs.Refusals.{moment_refusal}
 use Rattle.moments.proofs.Places.{set-name}
@@ -22,8 +23,8 @@ use Rattle.moments_words.specs.Calls.{Came, not_came, name_in, return_in}
 use Rattle.moments_words.specs.Refusals.{NamingInWords, ReturnInWords}
 
 -- the answer of a return where nothing but room for the session is asked
-abbrev roomed : Bool → MomentAnswer
-roomed e = cond e Done (Refused 6)
+abbrev roomed : Bool → Result Unit Refusal
+roomed e = cond e (Ok tt) (Err NoRoom)
 
 -- it has no number but 6
 roomed-other : (e : Bool) (n : ℕ) → (0 ≡ n → ⊥) → (6 ≡ n → ⊥) → moment_refusal (roomed e) ≡ n → ⊥
@@ -38,10 +39,10 @@ roomed-six false = (λ n. refl, λ h. refl)
 module _ (w names : List ℕ) (k : ℕ) where
   -- a naming by its tests: the name, enough words, the session in them, the place
   abbrev named : Bool → Bool → Bool → Bool → Named
-  named p e q r = cond p (cond e (named_by (session_in w) names k p q r) (not_named 7 names)) (not_named 2 names)
+  named p e q r = cond p (cond e (named_by (session_in w) names k p q r) (not_named Unsound names)) (not_named OutOfRange names)
 
   -- its answer
-  name-answer : (p e q r : Bool) → (named p e q r).answer ≡ answer_by 2 7 6 Done p (e && q) r
+  name-answer : (p e q r : Bool) → (named p e q r).answer ≡ answer_by 2 7 6 (Ok tt) p (e && q) r
   name-answer true true true true = refl
   name-answer true true true false = refl
   name-answer true true false r = refl
@@ -65,9 +66,9 @@ module _ (w names : List ℕ) (k : ℕ) where
       let q : Bool = sound (session_in w) in
       let r : Bool = lies (length names) k in
       record {
-        two = rw (name-answer p e q r, answer-number 2 7 6 Done p (e && q) r) (exactly-first 2 7 6 (λ e. omega arith) (λ e. omega arith) (λ e. omega arith) 0 (λ n. omega arith) p (e && q) r);
-        seven = rw (name-answer p e q r, answer-number 2 7 6 Done p (e && q) r) (exactly-second 2 7 6 (λ e. omega arith) (λ e. omega arith) (λ e. omega arith) 0 (λ n. omega arith) p (e && q) r);
-        six = rw (name-answer p e q r, answer-number 2 7 6 Done p (e && q) r) (exactly-third 2 7 6 (λ e. omega arith) (λ e. omega arith) (λ e. omega arith) 0 (λ n. omega arith) p (e && q) r);
+        two = rw (name-answer p e q r, answer-number 2 7 6 (Ok tt) p (e && q) r) (exactly-first 2 7 6 (λ e. omega arith) (λ e. omega arith) (λ e. omega arith) 0 (λ n. omega arith) p (e && q) r);
+        seven = rw (name-answer p e q r, answer-number 2 7 6 (Ok tt) p (e && q) r) (exactly-second 2 7 6 (λ e. omega arith) (λ e. omega arith) (λ e. omega arith) 0 (λ n. omega arith) p (e && q) r);
+        six = rw (name-answer p e q r, answer-number 2 7 6 (Ok tt) p (e && q) r) (exactly-third 2 7 6 (λ e. omega arith) (λ e. omega arith) (λ e. omega arith) 0 (λ n. omega arith) p (e && q) r);
         kept = name-kept p e q r;
       }
 
@@ -76,9 +77,9 @@ module _ (w names : List ℕ) (k : ℕ) where
   back p q r e =
       cond p
       (cond q
-      (cond r (cond e (record { answer = Done; words = put_at w 0 (session_laid (session_under names k)) }) (not_came 6 w)) (not_came 7 w))
-      (not_came 11 w))
-      (not_came 2 w)
+      (cond r (cond e (record { answer = Ok tt; words = put_at w 0 (session_laid (session_under names k)) }) (not_came NoRoom w)) (not_came Unsound w))
+      (not_came NameNotSet w))
+      (not_came OutOfRange w)
 
   -- its answer
   back-answer : (p q r e : Bool) → (back p q r e).answer ≡ answer_by 2 11 7 (roomed e) p q r

@@ -9,18 +9,18 @@ use session::Session;
 use session_layout::SESSION;
 
 // Whether a call was done.
-fn done(a: MomentAnswer) -> bool
+fn done(a: Result<(), Refusal>) -> bool
     ensures { result ≡ is_done a }
 {
     match a {
-        MomentAnswer::Done => true,
-        MomentAnswer::Refused(_) => false,
+        Ok(()) => true,
+        Err(_) => false,
     }
 }
 
 // The session in the words is put under the name. Not inlined: in the call for C, LLVM would lose a register (docs/DECISIONS.md).
 #[inline(never)]
-pub fn name_session(words: &[u32], names: &mut [u32], name: u32) -> MomentAnswer
+pub fn name_session(words: &[u32], names: &mut [u32], name: u32) -> Result<(), Refusal>
     ensures { (result ≡ (name_in words.now names.old name).answer) × (names.new ≡ (name_in words.now names.old name).names) }
 {
     let named = moments::is_name(name);
@@ -29,17 +29,17 @@ pub fn name_session(words: &[u32], names: &mut [u32], name: u32) -> MomentAnswer
     let none = !named;
     let short = !enough;
     if none {
-        return MomentAnswer::Refused(2);
+        return Err(Refusal::OutOfRange);
     }
     if short {
-        return MomentAnswer::Refused(7);
+        return Err(Refusal::Unsound);
     }
     let s = kept.session;
     moments::name_session(s, names, name)
 }
 
 // The session under the name comes to the front of the words.
-pub fn return_to(words: &mut [u32], names: &[u32], name: u32) -> MomentAnswer
+pub fn return_to(words: &mut [u32], names: &[u32], name: u32) -> Result<(), Refusal>
     ensures { (result ≡ (return_in words.old names.now name).answer) × (words.new ≡ (return_in words.old names.now name).words) }
 {
     let none = Session::new();
@@ -49,7 +49,7 @@ pub fn return_to(words: &mut [u32], names: &[u32], name: u32) -> MomentAnswer
         return answer;
     }
     if words.len() < SESSION {
-        return MomentAnswer::Refused(6);
+        return Err(Refusal::NoRoom);
     }
     let s = back.session;
     session_layout::put_session(words, s);

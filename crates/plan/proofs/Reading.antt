@@ -1,8 +1,8 @@
 -- A text that the reader refused, or read as a plan.
+use Rattle.std.specs.Prelude.{Err}
 use mathlib.Core.Path.{◌≡◌, refl, ap}
 use Prim.Native.Nat.{ℕ}
 use mathlib.Core.List.{List}
-use Rattle.summary_calls.specs.declared.Written.TheVariants.{Refused}
 use Rattle.texts.specs.Lines.{Read, got, refused as refused_at}
 use Rattle.texts.specs.Plans.{Plan, reads, depth}
 use Rattle.texts.specs.PlanTexts.{plan_of}
@@ -14,9 +14,9 @@ use Rattle.plan_reader.specs.Answers.{answer_of}
 
 module _ (text log work out : List ℕ) where
   -- the text is refused
-  pub text-refused : (n : ℕ) → plan_read.Refused n ≡ answer_of (plan_of text) → Gives (run_call text log work out) (Refused n) work out
+  pub text-refused : (n : ℕ) → plan_read.Refused n ≡ answer_of (plan_of text) → Gives (run_call text log work out) (Err n) work out
   unfolding run_call
-  text-refused n e = gives (run_call text log work out) (Refused n) work out (by (plan_of text) e)
+  text-refused n e = gives (run_call text log work out) (Err n) work out (by (plan_of text) e)
     where
       by : (p : Read Plan) → plan_read.Refused n ≡ answer_of p → run_by p log work out ≡ refused n work out
       by (got t) q = never (cc)

@@ -18,12 +18,12 @@ pub struct Done {
 }
 
 // How many words a call has written.
-fn count_of(answer: Written) -> usize
+fn count_of(answer: Result<usize, Refusal>) -> usize
     ensures { result ≡ count_of answer }
 {
     match answer {
-        Written::Words(n) => n,
-        Written::Refused(_) => 0,
+        Ok(n) => n,
+        Err(_) => 0,
     }
 }
 

@@ -1,4 +1,7 @@
 -- The call that carries a plan out: a law for each way that it returns.
+use Rattle.std.specs.Prelude.{Result, Ok, Err}
+use Rattle.reuse.specs.declared.refusals.Refusal.{Refusal}
+use Rattle.reuse.specs.declared.refusals.Refusal.TheVariants.{WrongTotal, NoRoom, TooManyReads, TooManyExtents}
 use mathlib.Core.Path.{◌≡◌, sym, ap, ◌∙◌}
 use Prim.Native.Nat.{ℕ, ◌+◌, ◌*◌, ◌≤◌, ◌<◌}
 use native.Mathlib.Omega.{arith}
@@ -12,8 +15,6 @@ use Rattle.reuse.specs.Lists.{firsts}
 use Rattle.reuse.specs.Summary.{summary_of}
 use Rattle.reuse.specs.Traces.{Within}
 use Rattle.reuse.proofs.Words.{length-summary}
-use Rattle.summary_calls.specs.declared.Written.{Written}
-use Rattle.summary_calls.specs.declared.Written.TheVariants.{Words, Refused}
 use Rattle.texts.specs.Lines.{Read, got}
 use Rattle.texts.specs.Plans.{Plan, text_of, reads, depth}
 use Rattle.texts.specs.PlanTexts.{plan_of}
@@ -22,11 +23,11 @@ use Rattle.plan_calls.specs.Calls.{level_words, work_words, cleared, fronted, Ra
 use Rattle.plan_calls.specs.Standing.{span, Stands, Ready, Roomy}
 
 -- what a call answers and leaves, by its definition
-abbrev pub Gives : Ran → Written → List ℕ → List ℕ → Type 0
+abbrev pub Gives : Ran → Result ℕ Refusal → List ℕ → List ℕ → Type 0
 Gives r answer work out = (answer ≡ r.answer) × ((work ≡ r.work) × (out ≡ r.out))
 
 -- of a definition that is known
-pub gives : (r : Ran) (answer : Written) (work out : List ℕ) → r ≡ record { answer = answer; work = work; out = out } → Gives r answer work out
+pub gives : (r : Ran) (answer : Result ℕ Refusal) (work out : List ℕ) → r ≡ record { answer = answer; work = work; out = out } → Gives r answer work out
 gives r answer work out e = (sym (ap (λ (v : Ran). v.answer) e), (sym (ap (λ (v : Ran). v.work) e), sym (ap (λ (v : Ran). v.out) e)))
 
 -- words of which the first n became 0
@@ -47,21 +48,21 @@ module _ (text log work out : List ℕ) where
     stands = let s = sound text t is in record { printed = s.0; ruled = omega (arith, s.1.long) }
 
     -- the segs do not add up to the log
-    pub segs-differ : (reads t ≡ length log → ⊥) → Gives (run_call text log work out) (Refused 3) work out
+    pub segs-differ : (reads t ≡ length log → ⊥) → Gives (run_call text log work out) (Err WrongTotal) work out
     unfolding plan_call
-    segs-differ h = gives (run_call text log work out) (Refused 3) work out (by-plan ∙ rw (ne_eqb (reads t) (length log) h))
+    segs-differ h = gives (run_call text log work out) (Err WrongTotal) work out (by-plan ∙ rw (ne_eqb (reads t) (length log) h))
 
     module _ (covers : reads t ≡ length log) where
       -- more reads than the limit
-      pub many-reads : max_reads < length log → Gives (run_call text log work out) (Refused 8) work out
+      pub many-reads : max_reads < length log → Gives (run_call text log work out) (Err TooManyReads) work out
       unfolding plan_call
-      many-reads h = gives (run_call text log work out) (Refused 8) work out (by-plan ∙ rw (eq-eqb (reads t) (length log) covers, lt-leb (length log) max_reads h))
+      many-reads h = gives (run_call text log work out) (Err TooManyReads) work out (by-plan ∙ rw (eq-eqb (reads t) (length log) covers, lt-leb (length log) max_reads h))
 
       -- more extents than the limit
-      pub many-extents : length log ≤ max_reads → max_extents < length (firsts log) → Gives (run_call text log work out) (Refused 9) work out
+      pub many-extents : length log ≤ max_reads → max_extents < length (firsts log) → Gives (run_call text log work out) (Err TooManyExtents) work out
       unfolding plan_call
       many-extents s h =
-          gives (run_call text log work out) (Refused 9) work out
+          gives (run_call text log work out) (Err TooManyExtents) work out
           (by-plan ∙ rw (eq-eqb (reads t) (length log) covers, le-leb (length log) max_reads s, lt-leb (length (firsts log)) max_extents h))
 
       module _ (within : Within log) where
@@ -71,20 +72,20 @@ module _ (text log work out : List ℕ) where
         by-room = by-plan ∙ rw (eq-eqb (reads t) (length log) covers, le-leb (length log) max_reads within.reads, le-leb (length (firsts log)) max_extents within.extents)
 
         -- too few work words
-        pub work-short : length work < work_words t → Gives (run_call text log work out) (Refused 6) work out
+        pub work-short : length work < work_words t → Gives (run_call text log work out) (Err NoRoom) work out
         unfolding carried_out
-        work-short h = gives (run_call text log work out) (Refused 6) work out (by-room ∙ rw (lt-leb (work_words t) (length work) h))
+        work-short h = gives (run_call text log work out) (Err NoRoom) work out (by-room ∙ rw (lt-leb (work_words t) (length work) h))
 
         -- too few words of output
-        pub out-short : length out < 2 + 3 * length (firsts log) → Gives (run_call text log work out) (Refused 6) work out
+        pub out-short : length out < 2 + 3 * length (firsts log) → Gives (run_call text log work out) (Err NoRoom) work out
         unfolding carried_out
         out-short h =
-            gives (run_call text log work out) (Refused 6) work out
+            gives (run_call text log work out) (Err NoRoom) work out
             (by-room ∙ rw (lt-leb (length (summary_of log)) (length out) (omega (arith, length-summary log)), and-false))
 
         module _ (deep : ℕ) (deepens : depth t ≡ deep) (levels : level_words * deep ≤ length work) (room : 2 + 3 * length (firsts log) ≤ length out) where
           -- the log's summary
-          pub carried : run_call text log work out ≡ record { answer = Words (length (summary_of log)); work = cleared (work_words t) work; out = fronted (summary_of log) out }
+          pub carried : run_call text log work out ≡ record { answer = Ok (length (summary_of log)); work = cleared (work_words t) work; out = fronted (summary_of log) out }
           unfolding carried_out
           carried = by-room ∙ rw (le-leb (work_words t) (length work) (omega arith), le-leb (length (summary_of log)) (length out) (omega (arith, length-summary log)))
 
@@ -111,13 +112,13 @@ module _ (text log work out : List ℕ) where
 
           -- the plan is carried out, and its work words are cleared
           pub run-done : (words : ℕ) (w o w' : List ℕ) → words ≡ length (summary_of (span 0 (reads t) log)) → o ≡ fronted (summary_of (span 0 (reads t) log)) out
-              → drop (level_words * deep) w ≡ drop (level_words * deep) work → w' ≡ cleared (level_words * deep) w → Gives (run_call text log work out) (Words words) w' o
+              → drop (level_words * deep) w ≡ drop (level_words * deep) work → w' ≡ cleared (level_words * deep) w → Gives (run_call text log work out) (Ok words) w' o
           unfolding cleared
           run-done words w o w' counted written kept c =
               let n : level_words * deep ≡ work_words t = omega arith in
               let l : span 0 (reads t) log ≡ log = take_all (reads t) log (omega arith) in
-              let g = gives (run_call text log work out) (Words (length (summary_of log))) (cleared (work_words t) work) (fronted (summary_of log) out) carried in (
-                ap Words (counted ∙ ap (λ (v : List ℕ). length (summary_of v)) l) ∙ g.0,
+              let g = gives (run_call text log work out) (Ok (length (summary_of log))) (cleared (work_words t) work) (fronted (summary_of log) out) carried in (
+                ap Ok (counted ∙ ap (λ (v : List ℕ). length (summary_of v)) l) ∙ g.0,
                 (
                   c ∙ ap (λ (v : List ℕ). replicate (level_words * deep) 0 ++ v) kept ∙ ap (λ (k : ℕ). replicate k 0 ++ drop k work) n ∙ g.1.0,
                   written ∙ ap (λ (v : List ℕ). fronted (summary_of v) out) l ∙ g.1.1,

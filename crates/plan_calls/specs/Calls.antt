@@ -1,10 +1,9 @@
 -- What carrying a plan out answers, and what it leaves in the two buffers lent to it.
-use Rattle.std.specs.Prelude.{◌≡◌, ℕ, ◌+◌, ◌*◌, List, ◌++◌, cond, ◌&&◌, eqb, leb, length, drop, replicate}
+use Rattle.std.specs.Prelude.{◌≡◌, ℕ, ◌+◌, ◌*◌, List, ◌++◌, cond, ◌&&◌, eqb, leb, length, drop, replicate, Result, Ok, Err}
+use Rattle.reuse.specs.declared.refusals.Refusal.{Refusal}
 use Rattle.reuse.specs.Limits.{max_reads, max_extents}
 use Rattle.reuse.specs.Lists.{firsts}
 use Rattle.reuse.specs.Summary.{summary_of}
-use Rattle.summary_calls.specs.declared.Written.{Written}
-use Rattle.summary_calls.specs.declared.Written.TheVariants.{Words, Refused}
 use Rattle.texts.specs.Lines.{Read, got, refused as refused_at}
 use Rattle.texts.specs.Plans.{Plan, reads, depth}
 use Rattle.texts.specs.PlanTexts.{plan_of}
@@ -30,25 +29,25 @@ unfoldable pub fronted : List ℕ → List ℕ → List ℕ
 fronted words buffer = words ++ drop (length words) buffer
 
 -- how many words a call has written
-abbrev pub count_of : Written → ℕ
-count_of (Words n) = n
-count_of (Refused n) = 0
+abbrev pub count_of : Result ℕ Refusal → ℕ
+count_of (Ok n) = n
+count_of (Err n) = 0
 
 -- the answer, and both lent buffers after it
 pub record Ran : Type 0 where
-  pub answer : Written
+  pub answer : Result ℕ Refusal
   pub work : List ℕ
   pub out : List ℕ
 
 -- the refusal n, with both buffers as they were
-abbrev pub refused : ℕ → List ℕ → List ℕ → Ran
-refused n work out = record { answer = Refused n; work = work; out = out }
+abbrev pub refused : Refusal → List ℕ → List ℕ → Ran
+refused n work out = record { answer = Err n; work = work; out = out }
 
 -- the log's summary, with the plan's work words 0 afterwards; 6 where the work words or the output are too few
 unfoldable pub carried_out : Plan → List ℕ → List ℕ → List ℕ → Ran
 carried_out t log work out =
     cond (leb (work_words t) (length work) && leb (length (summary_of log)) (length out))
-    (record { answer = Words (length (summary_of log)); work = cleared (work_words t) work; out = fronted (summary_of log) out })
+    (record { answer = Ok (length (summary_of log)); work = cleared (work_words t) work; out = fronted (summary_of log) out })
     (refused 6 work out)
 
 -- a plan on a log: 3, 8, 9, 6

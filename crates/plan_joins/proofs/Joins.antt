@@ -1,4 +1,6 @@
 -- A level's join: a law for each way that it returns, and what stands behind the level.
+use Rattle.std.specs.Prelude.{Result}
+use Rattle.reuse.specs.declared.refusals.Refusal.{Refusal}
 use mathlib.Core.Path.{◌≡◌, sym, ap, ◌∙◌}
 use Prim.Native.Nat.{ℕ, ◌+◌, ◌-◌, ◌≤◌, ◌<◌}
 use native.Mathlib.Omega.{arith}
@@ -10,7 +12,6 @@ use borrow.Author.Tests.{eq-eqb, ne_eqb, le-leb, lt-leb}
 use borrow.Rule.Slice.PartMut.{mid_of}
 use Rattle.reuse_rows.specs.Rows.{put_at, placed}
 use Rattle.reuse_copies.proofs.Puts.{placed-fits}
-use Rattle.summary_calls.specs.declared.Written.{Written}
 use Rattle.summary_calls.specs.Calls.{Wrote, join_call}
 use Rattle.plan_calls.specs.Calls.{summary_words, level_words, count_of}
 use Rattle.reuse_copies.proofs.Puts.{put-before, put-there, put-after}
@@ -91,7 +92,7 @@ module _ (work : List ℕ) (held : ℕ) (out : List ℕ) (words : ℕ) where
     gives_none e = gives words work out (none-held e)
 
     -- both are joined: the call's answer
-    pub gives_both : (held ≡ 0 → ⊥) → (w : List ℕ) → w ≡ placed work summary_words (take words out) → (answer : Written) (o : List ℕ)
+    pub gives_both : (held ≡ 0 → ⊥) → (w : List ℕ) → w ≡ placed work summary_words (take words out) → (answer : Result ℕ Refusal) (o : List ℕ)
         → answer ≡ (join_call (take held w) (mid_of summary_words (summary_words + words - summary_words) w) out).answer
         → o ≡ (join_call (take held w) (mid_of summary_words (summary_words + words - summary_words) w) out).buffer
         → Gives (count_of answer) w o

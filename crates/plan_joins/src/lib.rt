@@ -40,7 +40,7 @@ pub fn join_held(work: &mut [u32], held: usize, out: &mut [u32], words: usize) -
     let second = &both[SUMMARY_WORDS..end];
     let answer = summary::join(first, second, out);
     match answer {
-        Written::Words(n) => n,
-        Written::Refused(_) => 0,
+        Ok(n) => n,
+        Err(_) => 0,
     }
 }

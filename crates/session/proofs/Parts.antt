@@ -1,4 +1,6 @@
 -- The parts of a read: what each makes of the count and the right-hand sums is what the old session's marks give after it.
+use Rattle.std.specs.Prelude.{Result, Ok}
+use Rattle.reuse.specs.declared.refusals.Refusal.{Refusal}
 use Prim.Native.Nat.{ℕ, suc, ◌+◌, ◌-◌, ◌^◌, ◌≤◌, ◌<◌}
 use mathlib.Core.Path.{◌≡◌, refl, sym, ap, ◌∙◌}
 use mathlib.Core.List.{List, ◌++◌, map}
@@ -47,7 +49,7 @@ same-session : {reads reads' : ℕ} {first first' hist hist' slots slots' : List
 same-session reads first hist slots count rights next = cc
 
 -- a step with equal fields
-same_step : {a a' : Answer} {reads reads' : ℕ} {first first' hist hist' slots slots' : List ℕ} {count count' : ℕ} {rights rights' : List ℕ} {next next' : ℕ}
+same_step : {a a' : Result Answer Refusal} {reads reads' : ℕ} {first first' hist hist' slots slots' : List ℕ} {count count' : ℕ} {rights rights' : List ℕ} {next next' : ℕ}
     → a ≡ a' → reads ≡ reads' → first ≡ first' → hist ≡ hist' → slots ≡ slots' → count ≡ count' → rights ≡ rights' → next ≡ next'
     → ◌≡◌ {A = Step}
     (record { answer = a; session = record { reads = reads; first = first; hist = hist; slots = slots; count = count; rights = rights; next = next } })
@@ -55,10 +57,10 @@ same_step : {a a' : Answer} {reads reads' : ℕ} {first first' hist hist' slots 
 same_step a reads first hist slots count rights next = cc
 
 -- answers with equal numbers
-same-cold : {n n' k k' : ℕ} → n ≡ n' → k ≡ k' → ◌≡◌ {A = Answer} (Cold n k) (Cold n' k')
+same-cold : {n n' k k' : ℕ} → n ≡ n' → k ≡ k' → ◌≡◌ {A = Result Answer Refusal} (Ok (Cold n k)) (Ok (Cold n' k'))
 same-cold n k = cc
 
-pub same-distance : {d d' n n' k k' : ℕ} → d ≡ d' → n ≡ n' → k ≡ k' → ◌≡◌ {A = Answer} (Distance d n k) (Distance d' n' k')
+pub same-distance : {d d' n n' k k' : ℕ} → d ≡ d' → n ≡ n' → k ≡ k' → ◌≡◌ {A = Result Answer Refusal} (Ok (Distance d n k)) (Ok (Distance d' n' k'))
 same-distance d n k = cc
 
 -- ways up that read the same
@@ -139,7 +141,7 @@ module _ (s : Session) (looked : ℕ) (p : Enterable s looked) where
           rights = rights;
           next = s.next + 1;
         };
-        answer = Cold (s.count + 1) looked;
+        answer = Ok (Cold (s.count + 1) looked);
       })
       (new_step (step_at (old_of s) x (cold (suc (full.extents (old_of s))))))
   unfolding full-reads.entered
@@ -210,7 +212,7 @@ module _ (s : Session) (x k looked : ℕ) (p : Movable s x k looked) where
           rights = rights;
           next = s.next + 1;
         };
-        answer = Distance (w.total + 1) w.count looked;
+        answer = Ok (Distance (w.total + 1) w.count looked);
       })
       (new_step (step_at (old_of s) x (at (suc (sum (drop (suc k) (full.marks (old_of s))))))))
   unfolding full-reads.moved

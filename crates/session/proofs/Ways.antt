@@ -1,4 +1,7 @@
 -- The ways of a read: what its parts rely on, and what each of its returns answers.
+use Rattle.reuse.specs.declared.refusals.Refusal.TheVariants.{TooManyReads, TooManyExtents, Unsound}
+use Rattle.reuse.specs.declared.refusals.Refusal.{Refusal}
+use Rattle.std.specs.Prelude.{Option, None, Some}
 use Prim.Native.Nat.{ℕ, suc, ◌<◌}
 use mathlib.Core.Path.{◌≡◌, refl, sym, ap, subst, ◌∙◌}
 use mathlib.Core.List.{List}
@@ -125,7 +128,7 @@ unfolding overfull too_many full.stack_of full.extents
 over s f x = ap (λ (l : List ℕ). overfull s.slots l x) (sym (unfold marks in old-marks s f))
 
 -- what refuses a read of x
-abbrev refusal : Session → ℕ → ℕ
+abbrev refusal : Session → ℕ → Option Refusal
 refusal s x = refusal_of s.reads s.first s.hist s.slots s.count s.rights s.next x
 
 -- what is known of a session that accepts a read of x
@@ -141,33 +144,38 @@ module _ (s : Session) (w : Wide s) (x : ℕ) where
     ok-old = (old-sound s (sound-facts s w ok)).1
 
     -- a refusal of the old session, with the session as it was
-    refused-old : (n : ℕ) → new_step (full-reads.refused (old_of s) n) ≡ refused s n
-    refused-old n = ap (λ (r : Session). refused r n) (new-old s (sound-facts s w ok))
+    refused-old : (r : Refusal) → new_step (full-reads.refused (old_of s) r) ≡ refused s r
+    refused-old r = ap (λ (t : Session). refused t r) (new-old s (sound-facts s w ok))
 
   -- a read that is refused
-  pub refused-way : (n : ℕ) → n ≡ refusal s x → (n ≡ 0 → ⊥) → refused s n ≡ read_of s x
+  pub refused-way : (why : Refusal) → Some why ≡ refusal s x → refused s why ≡ read_of s x
   unfolding read_of refusal_of full-reads.read_of
-  refused-way n e z =
-      ap (refused s) e ∙
+  refused-way why e =
       by-test (sound s)
       (λ ok. by-test (eqb s.reads max_reads)
-      (λ r. simp (tested s w, ok, ok-old ok, r) (sym (refused-old ok 8)))
+      (λ r. let q : ◌≡◌ {A = Option Refusal} (Some why) (Some TooManyReads) = simp (tested s w, ok, r) at e in
+      let is : why ≡ TooManyReads = cc in
+      rw is (simp (ok, ok-old ok, r) (sym (refused-old ok TooManyReads))))
       (λ r. by-test (too_many (old_of s) x)
-      (λ m. simp (tested s w, ok, ok-old ok, r, over s (sound-facts s w ok) x, m) (sym (refused-old ok 9)))
-      (λ m. absurd (z (e ∙ simp (tested s w, ok, r, over s (sound-facts s w ok) x, m))))))
-      (λ bad. simp (tested s w, bad))
+      (λ m. let q : ◌≡◌ {A = Option Refusal} (Some why) (Some TooManyExtents) = simp (tested s w, ok, r, over s (sound-facts s w ok) x, m) at e in
+      let is : why ≡ TooManyExtents = cc in
+      rw is (simp (ok, ok-old ok, r, m) (sym (refused-old ok TooManyExtents))))
+      (λ m. let q : ◌≡◌ {A = Option Refusal} (Some why) None = simp (tested s w, ok, r, over s (sound-facts s w ok) x, m) at e in absurd (cc))))
+      (λ bad. let q : ◌≡◌ {A = Option Refusal} (Some why) (Some Unsound) = simp (tested s w, bad) at e in
+      let is : why ≡ Unsound = cc in
+      rw is (simp bad))
 
   -- a read that is not
-  pub accepts : refusal s x ≡ 0 → Accepted s x
+  pub accepts : refusal s x ≡ None → Accepted s x
   unfolding refusal_of
   accepts e =
       by-test (sound s)
       (λ ok. by-test (eqb s.reads max_reads)
-      (λ r. let z : ◌≡◌ {A = ℕ} 8 0 = simp (tested s w, ok, r) at e in absurd (omega arith))
+      (λ r. let z : ◌≡◌ {A = Option Refusal} (Some TooManyReads) None = simp (tested s w, ok, r) at e in absurd (cc))
       (λ r. by-test (too_many (old_of s) x)
-      (λ m. let z : ◌≡◌ {A = ℕ} 9 0 = simp (tested s w, ok, r, over s (sound-facts s w ok) x, m) at e in absurd (omega arith))
+      (λ m. let z : ◌≡◌ {A = Option Refusal} (Some TooManyExtents) None = simp (tested s w, ok, r, over s (sound-facts s w ok) x, m) at e in absurd (cc))
       (λ m. record { ok = ok; short = eqb-false s.reads max_reads r; few = m })))
-      (λ bad. let z : ◌≡◌ {A = ℕ} 7 0 = simp (tested s w, bad) at e in absurd (omega arith))
+      (λ bad. let z : ◌≡◌ {A = Option Refusal} (Some Unsound) None = simp (tested s w, bad) at e in absurd (cc))
 
   -- σ is s with room, and g is what the search for x comes to in it
   module _ (a : Accepted s x) (σ : Session) (g : Found) (m : Ready s σ) (is : g ≡ search_of σ x) where

@@ -1,7 +1,8 @@
 -- What a read answers, and the session after it, on every session: what the session with all sums does.
-use Rattle.std.specs.Prelude.{ℕ, List, cond}
+use Rattle.reuse.specs.declared.refusals.Refusal.{Refusal}
+use Rattle.std.specs.Prelude.{ℕ, List, cond, Err}
+use Rattle.reuse.specs.declared.refusals.Refusal.TheVariants.{Unsound}
 use Rattle.reuse.specs.Lru.{Reuse}
-use Rattle.session_calls.specs.declared.Answer.TheVariants.{Refused}
 use Rattle.session_calls.specs.Reads as full
 use Rattle.session_calls.specs.Reads.{FullStep}
 use Rattle.session.specs.declared.Session.{Session}
@@ -33,10 +34,10 @@ abbrev pub step_at : Session → ℕ → Reuse → Step
 step_at s x r = new_step (full.step_at (old_of s) x r)
 
 -- the refusal n, with the session as it was
-abbrev pub refused : Session → ℕ → Step
-refused s n = record { session = s; answer = Refused n }
+abbrev pub refused : Session → Refusal → Step
+refused s n = record { session = s; answer = Err n }
 
 -- a read of x: 7 where the session corresponds to no sound old one, or else what the old one answers, and the session that
 -- corresponds to the one after it
 unfoldable pub read_of : Session → ℕ → Step
-read_of s x = cond (sound s) (new_step (full.read_of (old_of s) x)) (refused s 7)
+read_of s x = cond (sound s) (new_step (full.read_of (old_of s) x)) (refused s Unsound)

@@ -10,7 +10,7 @@ ghost use Rattle.session.specs.Sessions.{fresh, old_of, sound};
 ghost use Rattle.session.specs.Reads.{new_step, gathered, refused, read_of};
 ghost use Rattle.session.specs.Steps.{Gatherable, Movable, Enterable};
 
-use reuse::{MAX_EXTENTS, RIGHTS, SLOTS};
+use reuse::{MAX_EXTENTS, RIGHTS, Refusal, SLOTS};
 use session_calls::Answer;
 
 // One less, modulo 2^32.
@@ -31,7 +31,7 @@ pub struct Session {
 // The session after a read, beside the answer.
 #[derive(Drop)]
 pub struct Step {
-    pub answer: Answer,
+    pub answer: Result<Answer, Refusal>,
     pub session: Session,
 }
 
@@ -112,11 +112,11 @@ impl Session {
                 rights,
                 next: self.next + 1,
             },
-            answer: Answer::Distance {
+            answer: Ok(Answer::Distance {
                 distance: t as u32 + 1,
                 sums_read: w.count,
                 slots_looked: looked,
-            },
+            }),
         }
     }
 
@@ -144,20 +144,20 @@ impl Session {
                 rights,
                 next: self.next + 1,
             },
-            answer: Answer::Cold {
+            answer: Ok(Answer::Cold {
                 number: v + 1,
                 slots_looked: looked,
-            },
+            }),
         }
     }
 
-    // The session unchanged, beside the refusal's number.
-    fn refused(self, n: u32) -> Step
-        ensures { result ≡ refused self n }
+    // The session unchanged, beside the refusal.
+    fn refused(self, refusal: Refusal) -> Step
+        ensures { result ≡ refused self refusal }
     {
         Step {
             session: self,
-            answer: Answer::Refused(n),
+            answer: Err(refusal),
         }
     }
 
@@ -169,7 +169,7 @@ impl Session {
         let next = self.next as usize;
         let reads = self.reads;
         let count = self.count;
-        let n = session_refusals::refusal(
+        let refusal = session_refusals::refusal(
             &self.first,
             &self.hist,
             &self.slots,
@@ -179,8 +179,8 @@ impl Session {
             reads,
             extent,
         );
-        if n != 0 {
-            return self.refused(n);
+        if let Some(why) = refusal {
+            return self.refused(why);
         }
         let filled = next == SLOTS;
         if filled {

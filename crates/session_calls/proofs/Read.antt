@@ -1,4 +1,6 @@
 -- The laws of a read: of a sound session, and of one that has read a trace.
+use Rattle.std.specs.Prelude.{Ok}
+use Rattle.reuse.specs.declared.refusals.Refusal.TheVariants.{TooManyReads, TooManyExtents}
 use Prim.Native.Nat.{ℕ, suc, ◌-◌, ◌≤◌, ◌<◌}
 use mathlib.Core.Path.{◌≡◌, refl, sym, ap, ◌∙◌}
 use mathlib.Core.List.{List, [], ◌∷◌, ◌++◌}
@@ -61,7 +63,7 @@ module _ (s : FullSession) (w : FullWide s) (ok : sound s ≡ true) (x : ℕ) wh
 
 -- an accepted read of a known extent by a session with room
 taken-neighbours : (s : FullSession) → Kept s → (x : ℕ) → mem x (stack_of s) ≡ true
-    → (taken s x).answer ≡ Distance (suc (total_at s (on_the_way s x))) (length (on_the_way s x)) (s.next - slot_of s x)
+    → (taken s x).answer ≡ Ok (Distance (suc (total_at s (on_the_way s x))) (length (on_the_way s x)) (s.next - slot_of s x))
 unfolding taken
 taken-neighbours s k x old =
     let below : slot_of s x < slot_count = omega (arith, slot-below s k x old, k.rows.low) in
@@ -101,16 +103,16 @@ module _ (s : FullSession) (t : List ℕ) (g : Stands s t) (x : ℕ) where
 
   -- what a read answers, by the trace alone
   pub read_is : read_of s x
-      ≡ cond (eqb (length t) max_reads) (refused s 8) (cond (over t x) (refused s 9) (step_at (roomed s) x (depth (stack t) x)))
+      ≡ cond (eqb (length t) max_reads) (refused s TooManyReads) (cond (over t x) (refused s TooManyExtents) (step_at (roomed s) x (depth (stack t) x)))
   unfolding read_of
   read_is = rw (g.is-sound, ap (λ (n : ℕ). eqb n max_reads) g.counted, too_many_lem, taken_is)
 
   -- a read too many
-  pub read-full : eqb (length t) max_reads ≡ true → read_of s x ≡ refused s 8
+  pub read-full : eqb (length t) max_reads ≡ true → read_of s x ≡ refused s TooManyReads
   read-full e = read_is ∙ rw e
 
   -- an extent too many
-  pub read-many : eqb (length t) max_reads ≡ false → over t x ≡ true → read_of s x ≡ refused s 9
+  pub read-many : eqb (length t) max_reads ≡ false → over t x ≡ true → read_of s x ≡ refused s TooManyExtents
   read-many short e = read_is ∙ rw (short, e)
 
   -- a read that is accepted

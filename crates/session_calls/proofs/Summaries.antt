@@ -1,4 +1,6 @@
 -- The summary of a sound session, its misses and its share; and of one that has read a trace.
+use Rattle.reuse.specs.declared.refusals.Refusal.TheVariants.{Unsound}
+use Rattle.std.specs.Prelude.{Ok}
 use Prim.Native.Nat.{ℕ, ◌+◌, ◌-◌, ◌≤◌}
 use mathlib.Core.Path.{◌≡◌, sym, ap, ◌∙◌}
 use mathlib.Core.List.{List}
@@ -9,8 +11,6 @@ use lib.Seq.{length-take-le, take_all, take-take}
 use Rattle.reuse.specs.Lists.{sum}
 use Rattle.reuse.specs.Cache.{cache_misses}
 use Rattle.reuse.specs.Summary.{words, summary_of, reads_of, extents_of, counts_of, hits_of, misses_of, servable_of}
-use Rattle.summary_calls.specs.declared.MissCount.TheVariants.{Misses}
-use Rattle.summary_calls.specs.declared.ShareAnswer.TheVariants.{Answered}
 use Rattle.summary_calls.specs.Calls.{wrote, share_at}
 use Rattle.summary_calls.specs.HitShares.{NoneOf, Between, Full}
 use Rattle.summary_calls.proofs.HitShares.{share-none, share-between, share-full, given-share}
@@ -93,16 +93,16 @@ unfolding summary_call
 summary-trace s t buffer g = simp (g.is-sound, session-summary s t g)
 
 -- its misses are those of the trace's summary
-pub misses-trace : (s : FullSession) (t : List ℕ) (c : ℕ) → Stands s t → misses_call s c ≡ Misses (misses_of (summary_of t) c)
+pub misses-trace : (s : FullSession) (t : List ℕ) (c : ℕ) → Stands s t → misses_call s c ≡ Ok (misses_of (summary_of t) c)
 unfolding misses_call
 misses-trace s t c g = simp (g.is-sound, session-summary s t g)
 
 -- so they are those of the cache that reads the trace
-pub misses-cache : (s : FullSession) (t : List ℕ) (c : ℕ) → Stands s t → misses_call s c ≡ Misses (cache_misses c t)
-misses-cache s t c g = misses-trace s t c g ∙ ap Misses (summary-cache c t)
+pub misses-cache : (s : FullSession) (t : List ℕ) (c : ℕ) → Stands s t → misses_call s c ≡ Ok (cache_misses c t)
+misses-cache s t c g = misses-trace s t c g ∙ ap Ok (summary-cache c t)
 
 -- its share is that of the trace's summary
-pub share-trace : (s : FullSession) (t : List ℕ) (c : ℕ) → Stands s t → share_call s c ≡ Answered (share_at (summary_of t) c)
+pub share-trace : (s : FullSession) (t : List ℕ) (c : ℕ) → Stands s t → share_call s c ≡ Ok (share_at (summary_of t) c)
 unfolding share_call
 share-trace s t c g = simp (g.is-sound, session-summary s t g)
 
@@ -117,7 +117,7 @@ module _ (s : FullSession) (w : FullWide s) (c : ℕ) where
   pub session-between : Between (share_call s c)
   unfolding share_call servable_of misses_of
   session-between x e =
-      let q = given-share (sound s) (Answered (share_at (session_words s) c)) 7 x e in
+      let q = given-share (sound s) (Ok (share_at (session_words s) c)) Unsound x e in
       let k = rows_of s w q.0 in
       share-between (hits_of (session_words s) c) (servable_of (session_words s)) (omega (arith, hits-reads s k c, reads-session s k)) x q.1
 
@@ -125,6 +125,6 @@ module _ (s : FullSession) (w : FullWide s) (c : ℕ) where
   pub session-full : extents s ≤ c → Full (share_call s c)
   unfolding share_call
   session-full l x e =
-      let q = given-share (sound s) (Answered (share_at (session_words s) c)) 7 x e in
+      let q = given-share (sound s) (Ok (share_at (session_words s) c)) Unsound x e in
       let k = rows_of s w q.0 in
       share-full (hits_of (session_words s) c) (servable_of (session_words s)) (omega (arith, hits-large s k c l, hist-total s k, servable-session s k)) x q.1

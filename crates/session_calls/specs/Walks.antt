@@ -1,5 +1,5 @@
 -- The distance of a read by the sums over the marks (01, 'FullSession, slots and sums').
-use Rattle.std.specs.Prelude.{ℕ, suc, ◌-◌, ◌<◌, ◌≡◌, List, map, true, length, get_or}
+use Rattle.std.specs.Prelude.{ℕ, suc, ◌-◌, ◌<◌, ◌≡◌, List, map, true, length, get_or, Ok}
 use Rattle.reuse.specs.Limits.{max_reads, slot_count, levels}
 use Rattle.reuse.specs.Lists.{mem, sum}
 use Rattle.session_sums.specs.Sums.{neighbours, zeros}
@@ -18,7 +18,7 @@ total_at s places = sum (map (λ p. get_or s.sums p 0) places)
 -- what an accepted read of a known extent answers, after any move of the marks: 1 plus the total of the sums on the way
 -- up, how many they are, which is the number of zeros of the slot's number, and the slots looked at
 pub record Walk (s : FullSession) (x : ℕ) : Type 0 where
-  pub answer : (read_of s x).answer ≡ Distance (suc (total_at (roomed s) (on_the_way (roomed s) x))) (length (on_the_way (roomed s) x)) ((roomed s).next - slot_of (roomed s) x)
+  pub answer : (read_of s x).answer ≡ Ok (Distance (suc (total_at (roomed s) (on_the_way (roomed s) x))) (length (on_the_way (roomed s) x)) ((roomed s).next - slot_of (roomed s) x))
   pub zeros-read : length (on_the_way (roomed s) x) ≡ zeros levels (slot_of (roomed s) x)
 
 -- of every sound session, whether or not a log gave it

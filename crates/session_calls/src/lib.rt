@@ -2,8 +2,8 @@
 // of the library keeps right-hand sums alone, and is shown equal to this one.
 #![tactic(auto)]
 
-// A read's answer: cold with the number of different extents read, itself included; its distance with the number of sums
-// read; both with the number of slots looked at; or the refusal's number.
+// The answer to a read that is accepted: cold with the number of different extents read, itself included; or its distance
+// with the number of sums read; both with the number of slots looked at.
 #[derive(Drop)]
 pub enum Answer {
     Cold {
@@ -15,5 +15,4 @@ pub enum Answer {
         sums_read: u32,
         slots_looked: u32,
     },
-    Refused(u32),
 }

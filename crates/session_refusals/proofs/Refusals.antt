@@ -1,4 +1,6 @@
 -- The ways of a refusal: what each test of it says.
+use Rattle.reuse.specs.declared.refusals.Refusal.TheVariants.{Unsound, TooManyReads, TooManyExtents}
+use Rattle.std.specs.Prelude.{Some, None}
 use Prim.Native.Nat.{ℕ, ◌≤◌}
 use mathlib.Core.Path.{◌≡◌, sym, ap, ◌∙◌}
 use mathlib.Core.List.{List}
@@ -21,7 +23,7 @@ module _ (reads : ℕ) (first hist slots : List ℕ) (count : ℕ) (rights : Lis
   marks = marks_from levels count rights
 
   -- fields that are not
-  pub refusal-unsound : (x : ℕ) → intact_rows reads first hist slots count rights next ≡ false → refusal_of reads first hist slots count rights next x ≡ 7
+  pub refusal-unsound : (x : ℕ) → intact_rows reads first hist slots count rights next ≡ false → refusal_of reads first hist slots count rights next x ≡ Some Unsound
   unfolding refusal_of
   refusal-unsound x e = rw e
 
@@ -37,13 +39,13 @@ module _ (reads : ℕ) (first hist slots : List ℕ) (count : ℕ) (rights : Lis
         sym (ap (mem x) (take_all (extents_in marks) first all)) ∙ kept-listed reads first hist slots marks next facts.sound.rows x
 
     -- a read too many
-    pub refusal-reads : reads ≡ max_reads → refusal_of reads first hist slots count rights next x ≡ 8
+    pub refusal-reads : reads ≡ max_reads → refusal_of reads first hist slots count rights next x ≡ Some TooManyReads
     unfolding refusal_of
     refusal-reads e = rw (ok, eq-eqb reads max_reads e)
 
     module _ (n : reads ≡ max_reads → ⊥) where
       -- an extent too many
-      pub refusal-extents : count ≡ max_extents → mem x first ≡ false → refusal_of reads first hist slots count rights next x ≡ 9
+      pub refusal-extents : count ≡ max_extents → mem x first ≡ false → refusal_of reads first hist slots count rights next x ≡ Some TooManyExtents
       unfolding refusal_of overfull
       refusal-extents v f =
           rw (
@@ -54,12 +56,12 @@ module _ (reads : ℕ) (first hist slots : List ℕ) (count : ℕ) (rights : Lis
           )
 
       -- an extent that is known
-      pub refusal-known : count ≡ max_extents → mem x first ≡ true → refusal_of reads first hist slots count rights next x ≡ 0
+      pub refusal-known : count ≡ max_extents → mem x first ≡ true → refusal_of reads first hist slots count rights next x ≡ None
       unfolding refusal_of overfull
       refusal-known v t = rw (ok, ne_eqb reads max_reads n, sym (listed v) ∙ t)
 
       -- fewer extents than the limit
-      pub refusal-few : (count ≡ max_extents → ⊥) → refusal_of reads first hist slots count rights next x ≡ 0
+      pub refusal-few : (count ≡ max_extents → ⊥) → refusal_of reads first hist slots count rights next x ≡ None
       unfolding refusal_of overfull
       refusal-few v =
           by-test (mem x (stack_in slots marks)) (λ t. rw (ok, ne_eqb reads max_reads n, t))

@@ -1,4 +1,7 @@
 -- The summary of a sound session, its misses and its share; and of one that has read a trace.
+use Rattle.std.specs.Prelude.{Result, Ok}
+use Rattle.reuse.specs.declared.refusals.Refusal.{Refusal}
+use Rattle.reuse.specs.declared.refusals.Refusal.TheVariants.{Unsound}
 use Prim.Native.Nat.{ℕ, ◌-◌, ◌≤◌}
 use mathlib.Core.Path.{◌≡◌, sym, ap, ◌∙◌}
 use mathlib.Core.List.{List, reverse}
@@ -11,9 +14,6 @@ use Rattle.reuse.specs.Cache.{cache_misses}
 use Rattle.reuse.specs.Summary.{words, summary_of, misses_of, servable_of}
 use Rattle.reuse.specs.Limits.{max_extents, slot_count}
 use Rattle.reuse_rows.specs.Rows.{padded}
-use Rattle.summary_calls.specs.declared.Written.{Written}
-use Rattle.summary_calls.specs.declared.MissCount.TheVariants.{Misses}
-use Rattle.summary_calls.specs.declared.ShareAnswer.TheVariants.{Answered}
 use Rattle.summary_calls.specs.Calls.{Wrote, wrote, refused, words_call, share_at}
 use Rattle.summary_calls.specs.HitShares.{NoneOf, Between, Full}
 use Rattle.session_sums.specs.Sums.{filled}
@@ -40,12 +40,12 @@ unfolding summary_call
 summary-trace s t buffer g = rw g.is-sound (old.summary-trace (old_of s) t buffer g.full-stands)
 
 -- the misses are those of the cache that reads the trace
-pub misses-cache : (s : Session) (t : List ℕ) (c : ℕ) → Stands s t → misses_call s c ≡ Misses (cache_misses c t)
+pub misses-cache : (s : Session) (t : List ℕ) (c : ℕ) → Stands s t → misses_call s c ≡ Ok (cache_misses c t)
 unfolding misses_call
 misses-cache s t c g = rw g.is-sound (old.misses-cache (old_of s) t c g.full-stands)
 
 -- the share is that of the trace's summary
-pub share-trace : (s : Session) (t : List ℕ) (c : ℕ) → Stands s t → share_call s c ≡ Answered (share_at (summary_of t) c)
+pub share-trace : (s : Session) (t : List ℕ) (c : ℕ) → Stands s t → share_call s c ≡ Ok (share_at (summary_of t) c)
 unfolding share_call
 share-trace s t c g = rw g.is-sound (old.share-trace (old_of s) t c g.full-stands)
 
@@ -56,7 +56,7 @@ unfolding words_call
 words_same reads {first' = first'} o f r h few = rw (f, r, h, le-leb (length first') max_extents few)
 
 -- a session that is not sound
-pub unsound-way : (s : Session) (o : List ℕ) → sound s ≡ false → summary_call s o ≡ refused 7 o
+pub unsound-way : (s : Session) (o : List ℕ) → sound s ≡ false → summary_call s o ≡ refused Unsound o
 unfolding summary_call
 unsound-way s o e = rw e
 
@@ -83,12 +83,12 @@ module _ (s : Session) (w : Wide s) (ok : sound s ≡ true) where
   summary-given o = rw (ok, ok-old)
 
   -- the misses, by their number
-  pub misses-given : (c : ℕ) → misses_call s c ≡ Misses (misses_of (session_words s) c)
+  pub misses-given : (c : ℕ) → misses_call s c ≡ Ok (misses_of (session_words s) c)
   unfolding misses_call full-calls.misses_call
   misses-given c = rw (ok, ok-old)
 
   -- the share of a sound session
-  pub share-given : (c : ℕ) → share_call s c ≡ Answered (share_at (session_words s) c)
+  pub share-given : (c : ℕ) → share_call s c ≡ Ok (share_at (session_words s) c)
   unfolding share_call full-calls.share_call
   share-given c = rw (ok, ok-old)
 
@@ -116,7 +116,7 @@ module _ (s : Session) (w : Wide s) (ok : sound s ≡ true) where
       ∙ sym (summary-given o)
 
   -- what is answered, and the buffer after it
-  pub words-given : (o m r : List ℕ) (a : Written) (b : List ℕ) → m ≡ gathered_row s.slots (full.marks (old_of s)) → r ≡ padded (reverse (take s.count m))
+  pub words-given : (o m r : List ℕ) (a : Result ℕ Refusal) (b : List ℕ) → m ≡ gathered_row s.slots (full.marks (old_of s)) → r ≡ padded (reverse (take s.count m))
       → let w = words_call s.reads (take s.count s.first) (take s.count r) (take s.count s.hist) o in (a ≡ w.answer) × (b ≡ w.buffer)
       → (a ≡ (summary_call s o).answer) × (b ≡ (summary_call s o).buffer)
   words-given o m r a b e f g = (

@@ -10,11 +10,11 @@ use session::Session;
 use summary_calls::{MissCount, ShareAnswer, Written};
 
 // The summary's words at the front of the lent buffer, or the refusal.
-pub fn summary(s: Session, out: &mut [u32]) -> Written
+pub fn summary(s: Session, out: &mut [u32]) -> Result<usize, Refusal>
     ensures { (result ≡ (summary_call s out.old).answer) × (out.new ≡ (summary_call s out.old).buffer) }
 {
     if !s.sound() {
-        return Written::Refused(7);
+        return Err(Refusal::Unsound);
     }
     let count = s.count;
     let v = count as usize;
@@ -42,25 +42,25 @@ fn hits(s: Session, size: u32) -> u32
 }
 
 // The misses of a cache of this size, or the refusal.
-pub fn misses(s: Session, size: u32) -> MissCount
+pub fn misses(s: Session, size: u32) -> Result<u32, Refusal>
     ensures { result ≡ misses_call s size }
 {
     if !s.sound() {
-        return MissCount::Refused(7);
+        return Err(Refusal::Unsound);
     }
     let reads = s.reads;
-    MissCount::Misses(reads - hits(s, size))
+    Ok(reads - hits(s, size))
 }
 
 // The share of hits of a cache of this size, of the reads that some size could have served, or the refusal.
-pub fn share(s: Session, size: u32) -> ShareAnswer
+pub fn share(s: Session, size: u32) -> Result<HitShare, Refusal>
     ensures { result ≡ share_call s size }
 {
     if !s.sound() {
-        return ShareAnswer::Refused(7);
+        return Err(Refusal::Unsound);
     }
     let reads = s.reads;
     let servable = reads - s.count;
     let hit = hits(s, size);
-    ShareAnswer::Answered(summary_counts::share_of(hit, servable))
+    Ok(summary_counts::share_of(hit, servable))
 }

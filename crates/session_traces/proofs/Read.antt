@@ -1,4 +1,5 @@
 -- The laws of a read: of a sound session, and of one that has read a trace; each is that of the session with all sums.
+use Rattle.reuse.specs.declared.refusals.Refusal.TheVariants.{TooManyReads, TooManyExtents}
 use Prim.Native.Nat.{ℕ, suc, ◌-◌, ◌≤◌, ◌<◌}
 use mathlib.Core.Path.{◌≡◌, sym, ap, subst, ◌∙◌}
 use mathlib.Core.List.{List, [], ◌∷◌, ◌++◌, map}
@@ -88,29 +89,29 @@ module _ (s : Session) (t : List ℕ) (g : Stands s t) (x : ℕ) where
   o = old_of s
 
   -- a refusal of the old session, with the session as it was
-  refused-old : (n : ℕ) → new_step (full-reads.refused o n) ≡ refused s n
+  refused-old : (n : Refusal) → new_step (full-reads.refused o n) ≡ refused s n
   refused-old n = ap (λ (r : Session). refused r n) (new-old s (stands-facts s t g))
 
   -- what a read answers, by the trace alone
   pub read_is : read_of s x
-      ≡ cond (eqb (length t) max_reads) (refused s 8) (cond (over t x) (refused s 9) (step_at (roomed s) x (depth (stack t) x)))
+      ≡ cond (eqb (length t) max_reads) (refused s TooManyReads) (cond (over t x) (refused s TooManyExtents) (step_at (roomed s) x (depth (stack t) x)))
   read_is =
       read-old s g.wide g.is-sound x
       ∙ ap new_step (old.read_is o t g.full-stands x)
       ∙ by (eqb (length t) max_reads) (over t x)
     where
       by : (c d : Bool) → new_step (cond c (full-reads.refused o 8) (cond d (full-reads.refused o 9) (full-reads.step_at (full-reads.roomed o) x (depth (stack t) x))))
-          ≡ cond c (refused s 8) (cond d (refused s 9) (step_at (roomed s) x (depth (stack t) x)))
+          ≡ cond c (refused s TooManyReads) (cond d (refused s TooManyExtents) (step_at (roomed s) x (depth (stack t) x)))
       by true d = refused-old 8
       by false true = refused-old 9
       by false false = sym (ap (λ (r : FullSession). new_step (full-reads.step_at r x (depth (stack t) x))) (old-roomed s (stands-facts s t g)))
 
   -- a read too many
-  pub read-full : eqb (length t) max_reads ≡ true → read_of s x ≡ refused s 8
+  pub read-full : eqb (length t) max_reads ≡ true → read_of s x ≡ refused s TooManyReads
   read-full e = read_is ∙ rw e
 
   -- an extent too many
-  pub read-many : eqb (length t) max_reads ≡ false → over t x ≡ true → read_of s x ≡ refused s 9
+  pub read-many : eqb (length t) max_reads ≡ false → over t x ≡ true → read_of s x ≡ refused s TooManyExtents
   read-many short e = read_is ∙ rw (short, e)
 
   -- a read that is accepted

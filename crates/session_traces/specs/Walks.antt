@@ -1,5 +1,5 @@
 -- The distance of a read by the right-hand sums over the marks (01, 'Session, slots and sums'; 02, 'Keep right-hand sums alone').
-use Rattle.std.specs.Prelude.{ℕ, suc, ◌-◌, ◌<◌, ◌≡◌, List, map, true, length, get_or}
+use Rattle.std.specs.Prelude.{ℕ, suc, ◌-◌, ◌<◌, ◌≡◌, List, map, true, length, get_or, Ok}
 use Rattle.reuse.specs.Limits.{max_reads, levels}
 use Rattle.reuse.specs.Lists.{mem, sum}
 use Rattle.session_sums.specs.Sums.{zeros}
@@ -20,7 +20,7 @@ total_at s points = sum (map (λ p. get_or s.rights p 0) points)
 -- what an accepted read of a known extent answers, after any move of the marks: 1 plus the total of the right-hand sums on
 -- the way up, how many they are, which is the number of zeros of the slot's number, and the slots looked at
 pub record Walk (s : Session) (x : ℕ) : Type 0 where
-  pub answer : (read_of s x).answer ≡ Distance (suc (total_at (roomed s) (on_the_way (roomed s) x))) (length (on_the_way (roomed s) x)) ((roomed s).next - slot_of (roomed s) x)
+  pub answer : (read_of s x).answer ≡ Ok (Distance (suc (total_at (roomed s) (on_the_way (roomed s) x))) (length (on_the_way (roomed s) x)) ((roomed s).next - slot_of (roomed s) x))
   pub zeros-read : length (on_the_way (roomed s) x) ≡ zeros levels (slot_of (roomed s) x)
 
 -- of every sound session, whether or not a log gave it

@@ -1,4 +1,7 @@
 -- Words that hold a session: too few of them, and what a refusal leaves.
+use Rattle.std.specs.Prelude.{Result, Ok, Err}
+use Rattle.reuse.specs.declared.refusals.Refusal.{Refusal}
+use Rattle.reuse.specs.declared.refusals.Refusal.TheVariants.{NoRoom, Unsound}
 use mathlib.Core.Path.{◌≡◌, refl, sym, ap, ◌∙◌}
 use Prim.Native.Nat.{ℕ, ◌≤◌, ◌<◌}
 use native.Mathlib.Omega.{arith}
@@ -7,14 +10,11 @@ use mathlib.Core.Bool.{true, false, true≢false, false≢true}
 use lib.ListN.{length}
 use borrow.Author.Tests.{le-leb, lt-leb}
 use Rattle.reuse_rows.specs.Rows.{put_at, placed}
-use Rattle.summary_calls.specs.declared.Written.TheVariants.{Words}
-use Rattle.summary_calls.specs.declared.MissCount.TheVariants.{Refused as NoMisses}
-use Rattle.summary_calls.specs.declared.ShareAnswer.TheVariants.{Refused as NoShare}
 use Rattle.summary_calls.specs.Calls.{refused}
 use Rattle.summary_calls.proofs.Calls.{wrote-short, wrote-all}
 use Rattle.session.specs.declared.Session.{Session}
 use Rattle.session_calls.specs.declared.Answer.{Answer}
-use Rattle.session_calls.specs.declared.Answer.TheVariants.{Cold, Distance, Refused}
+use Rattle.session_calls.specs.declared.Answer.TheVariants.{Cold, Distance}
 use Rattle.session.specs.Sessions.{fresh, Wide}
 use Rattle.session.specs.Reads.{refused as read_refused, read_of}
 use Rattle.session_summary.specs.Summaries.{summary_call, misses_call, share_call}
@@ -25,36 +25,36 @@ use Rattle.session_layout.proofs.Laid.{fresh-wide, laid-length, laid-fits, laid-
 module _ (w : List ℕ) where
   module _ (few : length w < session_length) where
     -- no room for a new session
-    pub new-short : new_session w ≡ refused 6 w
+    pub new-short : new_session w ≡ refused NoRoom w
     unfolding new_session
     new-short = wrote-short (session_laid fresh) w (omega (arith, few, laid-length fresh fresh-wide))
 
     -- no session to read with
-    pub read_short : (x : ℕ) → read_in w x ≡ read_refused (session_in w) 7
+    pub read_short : (x : ℕ) → read_in w x ≡ read_refused (session_in w) Unsound
     unfolding read_in
     read_short x = simp (lt-leb session_length (length w) few)
 
     -- none to summarize
-    pub summary-short : (buffer : List ℕ) → summary_in w buffer ≡ refused 7 buffer
+    pub summary-short : (buffer : List ℕ) → summary_in w buffer ≡ refused Unsound buffer
     unfolding summary_in
     summary-short buffer = simp (lt-leb session_length (length w) few)
 
     -- none to count misses or hits of
-    pub misses-short : (c : ℕ) → misses_in w c ≡ NoMisses 7
+    pub misses-short : (c : ℕ) → misses_in w c ≡ Err Unsound
     unfolding misses_in
     misses-short c = simp (lt-leb session_length (length w) few)
 
-    pub share-short : (c : ℕ) → share_in w c ≡ NoShare 7
+    pub share-short : (c : ℕ) → share_in w c ≡ Err Unsound
     unfolding share_in
     share-short c = simp (lt-leb session_length (length w) few)
 
   module _ (enough : session_length ≤ length w) where
     -- a new session is written
-    pub new-all : new_session w ≡ record { answer = Words session_length; buffer = placed w 0 (session_laid fresh) }
+    pub new-all : new_session w ≡ record { answer = Ok session_length; buffer = placed w 0 (session_laid fresh) }
     unfolding new_session
     new-all =
         wrote-all (session_laid fresh) w session_length (laid-length fresh fresh-wide) enough
-        ∙ ap (λ (b : List ℕ). record { answer = Words session_length; buffer = b }) (sym (laid-fits fresh fresh-wide w enough))
+        ∙ ap (λ (b : List ℕ). record { answer = Ok session_length; buffer = b }) (sym (laid-fits fresh fresh-wide w enough))
 
     -- the session in the words reads
     pub read_all : (x : ℕ) → read_in w x ≡ read_of (session_in w) x
@@ -82,13 +82,13 @@ read_kept s wide w l x =
     read_all (put_at w 0 (session_laid s)) (omega (arith, l, laid-row s wide w l)) x ∙ ap (λ (t : Session). read_of t x) (laid-read s wide w)
 
 -- a read that is accepted puts the session's words
-pub left-read : (a : Answer) (s : Session) (w : List ℕ) → is_read a ≡ true → session_left a s w ≡ put_at w 0 (session_laid s)
-left-read (Cold n k) s w e = refl
-left-read (Distance d n k) s w e = refl
-left-read (Refused n) s w e = absurd (false≢true e)
+pub left-read : (a : Result Answer Refusal) (s : Session) (w : List ℕ) → is_read a ≡ true → session_left a s w ≡ put_at w 0 (session_laid s)
+left-read (Ok (Cold n k)) s w e = refl
+left-read (Ok (Distance d n k)) s w e = refl
+left-read (Err n) s w e = absurd (false≢true e)
 
 -- a refusal leaves the words
-pub left-refused : (a : Answer) (s : Session) (w : List ℕ) → is_read a ≡ false → session_left a s w ≡ w
-left-refused (Cold n k) s w e = absurd (true≢false e)
-left-refused (Distance d n k) s w e = absurd (true≢false e)
-left-refused (Refused n) s w e = refl
+pub left-refused : (a : Result Answer Refusal) (s : Session) (w : List ℕ) → is_read a ≡ false → session_left a s w ≡ w
+left-refused (Ok (Cold n k)) s w e = absurd (true≢false e)
+left-refused (Ok (Distance d n k)) s w e = absurd (true≢false e)
+left-refused (Err n) s w e = refl

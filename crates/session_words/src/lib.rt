@@ -23,20 +23,20 @@ fn accepted(a: &Answer) -> bool
             sums_read: _,
             slots_looked: _,
         } => true,
-        Answer::Refused(_) => false,
+        Err(_) => false,
     }
 }
 
 // A new session's words at the front of the row.
-pub fn new_session(words: &mut [u32]) -> Written
+pub fn new_session(words: &mut [u32]) -> Result<usize, Refusal>
     ensures { (result ≡ (new_session words.old).answer) × (words.new ≡ (new_session words.old).buffer) }
 {
     if words.len() < SESSION {
-        return Written::Refused(6);
+        return Err(Refusal::NoRoom);
     }
     let s = Session::new();
     session_layout::put_session(words, s);
-    Written::Words(SESSION)
+    Ok(SESSION)
 }
 
 // A read of the extent by the session in the words.
@@ -45,7 +45,7 @@ pub fn read(words: &mut [u32], extent: u32) -> Answer
 {
     let kept = session_layout::session_in(words);
     if !kept.enough {
-        return Answer::Refused(7);
+        return Err(Refusal::Unsound);
     }
     let s = kept.session;
     let step = s.read(extent);
@@ -59,36 +59,36 @@ pub fn read(words: &mut [u32], extent: u32) -> Answer
 }
 
 // The summary of the session in the words, at the front of `out`.
-pub fn summary(words: &[u32], out: &mut [u32]) -> Written
+pub fn summary(words: &[u32], out: &mut [u32]) -> Result<usize, Refusal>
     ensures { (result ≡ (summary_in words.now out.old).answer) × (out.new ≡ (summary_in words.now out.old).buffer) }
 {
     let kept = session_layout::session_in(words);
     if !kept.enough {
-        return Written::Refused(7);
+        return Err(Refusal::Unsound);
     }
     let s = kept.session;
     session_summary::summary(s, out)
 }
 
 // The misses of a cache of this size that reads the log of the session in the words.
-pub fn misses(words: &[u32], size: u32) -> MissCount
+pub fn misses(words: &[u32], size: u32) -> Result<u32, Refusal>
     ensures { result ≡ misses_in words.now size }
 {
     let kept = session_layout::session_in(words);
     if !kept.enough {
-        return MissCount::Refused(7);
+        return Err(Refusal::Unsound);
     }
     let s = kept.session;
     session_summary::misses(s, size)
 }
 
 // The hit share of a cache of this size that reads the log of the session in the words.
-pub fn share(words: &[u32], size: u32) -> ShareAnswer
+pub fn share(words: &[u32], size: u32) -> Result<HitShare, Refusal>
     ensures { result ≡ share_in words.now size }
 {
     let kept = session_layout::session_in(words);
     if !kept.enough {
-        return ShareAnswer::Refused(7);
+        return Err(Refusal::Unsound);
     }
     let s = kept.session;
     session_summary::share(s, size)

@@ -11,29 +11,29 @@ use reuse::{MAX_CUSTOMERS, MAX_STORE};
 pub use split_calls::SplitAnswer;
 
 // The misses in all of the customers' summaries at the shares found, which stand at the front of `shares`.
-pub fn split(store: u32, leasts: &[u32], summaries: &[u32], shares: &mut [u32]) -> SplitAnswer
+pub fn split(store: u32, leasts: &[u32], summaries: &[u32], shares: &mut [u32]) -> Result<u32, Refusal>
     ensures { (result ≡ (split_call store leasts.now summaries.now shares.old).answer) × (shares.new ≡ (split_call store leasts.now summaries.now shares.old).shares) }
 {
     let room = store as usize;
     let customers = leasts.len();
     if MAX_STORE < room {
-        return SplitAnswer::Refused(2);
+        return Err(Refusal::OutOfRange);
     }
     if customers < 1 {
-        return SplitAnswer::Refused(2);
+        return Err(Refusal::OutOfRange);
     }
     if MAX_CUSTOMERS < customers {
-        return SplitAnswer::Refused(2);
+        return Err(Refusal::OutOfRange);
     }
     if !split_formed::all_formed(summaries, customers) {
-        return SplitAnswer::Refused(5);
+        return Err(Refusal::NotASummary);
     }
     let short = (store as u64) < reuse_rows::total(leasts);
     if short {
-        return SplitAnswer::Refused(10);
+        return Err(Refusal::StoreTooSmall);
     }
     if shares.len() < customers {
-        return SplitAnswer::Refused(6);
+        return Err(Refusal::NoRoom);
     }
-    SplitAnswer::Misses(search::search(room, leasts, summaries, shares))
+    Ok(search::search(room, leasts, summaries, shares))
 }

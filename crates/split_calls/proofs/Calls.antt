@@ -1,4 +1,5 @@
 -- The call, case by case: each refusal under its condition, looked at in order.
+use Rattle.reuse.specs.declared.refusals.Refusal.TheVariants.{OutOfRange, NotASummary, NoRoom, StoreTooSmall}
 use mathlib.Core.Path.{◌≡◌, sym, ap}
 use Prim.Native.Nat.{ℕ, ◌≤◌, ◌<◌}
 use mathlib.Core.List.{List}
@@ -28,31 +29,31 @@ by_parts q = (ap (λ (d : Divided). d.answer) (sym q), ap (λ (d : Divided). d.s
 
 module _ (store : ℕ) (leasts words shares : List ℕ) where
   -- a store that is too large
-  pub call-store : max_store < store → split_call store leasts words shares ≡ turned_away 2 shares
+  pub call-store : max_store < store → split_call store leasts words shares ≡ turned_away OutOfRange shares
   unfolding split_call
   call-store h = rw (lt-leb store max_store h)
 
   module _ (a : store ≤ max_store) where
     -- a wrong number of customers
-    pub call-customers : customers_fit (length leasts) ≡ false → split_call store leasts words shares ≡ turned_away 2 shares
+    pub call-customers : customers_fit (length leasts) ≡ false → split_call store leasts words shares ≡ turned_away OutOfRange shares
     unfolding split_call
     call-customers h = simp (le-leb store max_store a, h)
 
     module _ (b : customers_fit (length leasts) ≡ true) where
       -- a bad summary
-      pub call-summary : all_formed (cut_summaries (length leasts) words) ≡ false → split_call store leasts words shares ≡ turned_away 5 shares
+      pub call-summary : all_formed (cut_summaries (length leasts) words) ≡ false → split_call store leasts words shares ≡ turned_away NotASummary shares
       unfolding split_call
       call-summary h = simp (le-leb store max_store a, b, h)
 
       module _ (c : all_formed (cut_summaries (length leasts) words) ≡ true) where
         -- least shares that do not fit
-        pub call-least : store < sum leasts → split_call store leasts words shares ≡ turned_away 10 shares
+        pub call-least : store < sum leasts → split_call store leasts words shares ≡ turned_away StoreTooSmall shares
         unfolding split_call
         call-least h = simp (le-leb store max_store a, b, c, lt-leb (sum leasts) store h)
 
         module _ (d : sum leasts ≤ store) where
           -- too few words for the shares
-          pub call-room : length shares < length leasts → split_call store leasts words shares ≡ turned_away 6 shares
+          pub call-room : length shares < length leasts → split_call store leasts words shares ≡ turned_away NoRoom shares
           unfolding split_call
           call-room h = simp (le-leb store max_store a, b, c, le-leb (sum leasts) store d, lt-leb (length leasts) (length shares) h)
 

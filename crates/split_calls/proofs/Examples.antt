@@ -1,4 +1,6 @@
 -- Worked examples, computed from the definitions.
+use Rattle.std.specs.Prelude.{Ok, Err}
+use Rattle.reuse.specs.declared.refusals.Refusal.TheVariants.{StoreTooSmall}
 use mathlib.Core.Path.{◌≡◌, refl}
 use Prim.Native.Nat.{ℕ}
 use mathlib.Core.List.{List, [], ◌∷◌, flat_map, flatten}
@@ -9,7 +11,6 @@ use Rattle.split_calls.specs.Split.{share_lists, split_misses, better, best_afte
 use Rattle.split_calls.specs.Stepwise.{with_one_more, handed_out}
 use Rattle.split_calls.specs.Cuts.{cut_summaries}
 use Rattle.split_calls.specs.Calls.{divided, all_formed, split_call}
-use Rattle.split_calls.specs.declared.SplitAnswer.TheVariants.{Misses, Refused}
 use Rattle.split_calls.specs.Tables.{lowest, fewest, first_from, smallest_total, smallest_share, chosen}
 
 -- the summaries of the logs 1 1 and 1 2 1 2
@@ -51,11 +52,11 @@ unfolding smallest_total chosen smallest_share first_from fewest lowest from sum
 uneven-chosen = (refl, refl, refl, refl)
 
 -- the call for both, their words end to end: 4 misses, the shares at the front of three words, and the third as it was
-pub uneven-call : split_call 2 (0 ∷ 0 ∷ []) (flatten uneven) (7 ∷ 8 ∷ 9 ∷ []) ≡ record { answer = Misses 4; shares = 0 ∷ 2 ∷ 9 ∷ [] }
+pub uneven-call : split_call 2 (0 ∷ 0 ∷ []) (flatten uneven) (7 ∷ 8 ∷ 9 ∷ []) ≡ record { answer = Ok 4; shares = 0 ∷ 2 ∷ 9 ∷ [] }
 unfolding split_call divided all_formed well_formed reads_of first_of recent_of distinct all_in cut_summaries flatten split_of best_of best_after better split_misses share_lists flat_map from sum misses_of extents_of counts_of summary_of words histogram firsts cleanup mem count_at count reuses depth touch remove
 uneven-call = refl
 
 -- least shares that add up to one more than the store
-pub uneven-refused : split_call 2 (1 ∷ 2 ∷ []) (flatten uneven) (7 ∷ 8 ∷ []) ≡ record { answer = Refused 10; shares = 7 ∷ 8 ∷ [] }
+pub uneven-refused : split_call 2 (1 ∷ 2 ∷ []) (flatten uneven) (7 ∷ 8 ∷ []) ≡ record { answer = Err StoreTooSmall; shares = 7 ∷ 8 ∷ [] }
 unfolding split_call all_formed well_formed reads_of first_of recent_of distinct all_in cut_summaries flatten from sum misses_of extents_of counts_of summary_of words histogram firsts cleanup mem count_at count reuses depth touch remove
 uneven-refused = refl

@@ -1,4 +1,5 @@
 -- Each refusal is given exactly under its condition, in order, and leaves the shares.
+use Rattle.reuse.specs.declared.refusals.Refusal.TheVariants.{OutOfRange, NotASummary, NoRoom, StoreTooSmall}
 use mathlib.Core.Path.{◌≡◌, refl, ap}
 use mathlib.Core.Logic.{◌⊎◌, inl, inr, ◌↔◌}
 use Prim.Native.Nat.{ℕ, ◌≤◌, ◌<◌}
@@ -97,7 +98,7 @@ module _ (store : ℕ) (leasts words shares : List ℕ) where
   all-good h = by-test (all_formed ss) (λ e. e) (λ e. absurd (h (bad-one ss e)))
 
   -- a store or a number of customers outside the limits
-  two-call : Outside store leasts → split_call store leasts words shares ≡ turned_away 2 shares
+  two-call : Outside store leasts → split_call store leasts words shares ≡ turned_away OutOfRange shares
   two-call (inl a) = call-store store leasts words shares a
   two-call (inr x) =
       either (below max_store store) (call-store store leasts words shares)
@@ -109,18 +110,18 @@ module _ (store : ℕ) (leasts words shares : List ℕ) where
     fit = customers-fit (length leasts) (in_order a).1 (in_order a).2
 
     -- a bad summary
-    five-call : SomeBad ss → split_call store leasts words shares ≡ turned_away 5 shares
+    five-call : SomeBad ss → split_call store leasts words shares ≡ turned_away NotASummary shares
     five-call b =
         call-summary store leasts words shares (in_order a).0 fit
         (by-test (all_formed ss) (λ e. clash (each-formed ss e b.0 b.1) b.2) (λ e. e))
 
     module _ (b : SomeBad ss → ⊥) where
       -- least shares that do not fit
-      ten-call : store < sum leasts → split_call store leasts words shares ≡ turned_away 10 shares
+      ten-call : store < sum leasts → split_call store leasts words shares ≡ turned_away StoreTooSmall shares
       ten-call = call-least store leasts words shares (in_order a).0 fit (all-good b)
 
       -- too few words
-      six-call : sum leasts ≤ store → length shares < length leasts → split_call store leasts words shares ≡ turned_away 6 shares
+      six-call : sum leasts ≤ store → length shares < length leasts → split_call store leasts words shares ≡ turned_away NoRoom shares
       six-call = call-room store leasts words shares (in_order a).0 fit (all-good b)
 
       -- nothing is refused

@@ -1,18 +1,18 @@
 -- When a split is refused: each number exactly under its condition, looked at after those before it.
-use Rattle.std.specs.Prelude.{ℕ, ◌≤◌, ◌<◌, ◌≡◌, ◌⊎◌, ◌↔◌, ◌≢◌, false, length}
+use Rattle.reuse.specs.Refusals.{number_of}
+use Rattle.std.specs.Prelude.{ℕ, ◌≤◌, ◌<◌, ◌≡◌, ◌⊎◌, ◌↔◌, ◌≢◌, false, length, Result, Ok, Err}
+use Rattle.reuse.specs.declared.refusals.Refusal.{Refusal}
 use mathlib.Core.List.{List, Memᴰ}
 use Rattle.reuse.specs.Limits.{max_store, max_customers}
 use Rattle.reuse.specs.Lists.{sum}
 use Rattle.reuse.specs.Summary.{well_formed}
 use Rattle.split_calls.specs.Cuts.{cut_summaries}
 use Rattle.split_calls.specs.Calls.{split_call}
-use Rattle.split_calls.specs.declared.SplitAnswer.{SplitAnswer}
-use Rattle.split_calls.specs.declared.SplitAnswer.TheVariants.{Misses, Refused}
 
 -- the refusal's number, 0 where there is none
-abbrev pub split_refusal : SplitAnswer → ℕ
-split_refusal (Misses n) = 0
-split_refusal (Refused n) = n
+abbrev pub split_refusal : Result ℕ Refusal → ℕ
+split_refusal (Ok n) = 0
+split_refusal (Err r) = number_of r
 
 -- a store above the largest, or a number of customers that is not from 1 to the most
 abbrev pub Outside : ℕ → List ℕ → Type 0

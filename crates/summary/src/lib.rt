@@ -1,7 +1,8 @@
 // Summaries as words in lent slices: the summary of a trace, the well-formedness test, join, misses and hit share.
 #![tactic(auto)]
 
-pub use summary_calls::{HitShare, MissCount, ShareAnswer, Written};
+pub use reuse::Refusal;
+pub use summary_calls::HitShare;
 pub use summary_counts::{misses, share, share_of};
 pub use summary_formed::well_formed;
 pub use summary_join::join;

@@ -6,30 +6,31 @@ ghost use Rattle.reuse.specs.Summary.{hits_of};
 ghost use Rattle.summary_calls.specs.Shapes.{Given};
 ghost use Rattle.summary_calls.specs.Calls.{misses_call, share_of, share_call};
 
-use summary_calls::{HitShare, MissCount, ShareAnswer};
+use reuse::Refusal;
+use summary_calls::HitShare;
 use summary_formed::well_formed;
 
 // The misses of a cache of this size.
-pub fn misses(words: &[u32], size: u32) -> MissCount
+pub fn misses(words: &[u32], size: u32) -> Result<u32, Refusal>
     ensures { result ≡ misses_call words.now size }
 {
     if !well_formed(words) {
-        return MissCount::Refused(5);
+        return Err(Refusal::NotASummary);
     }
-    MissCount::Misses(words[0] - hits(words, size))
+    Ok(words[0] - hits(words, size))
 }
 
 // The share of hits in a cache of this size, of the reads that some size could have served: of all but the cold ones.
-pub fn share(words: &[u32], size: u32) -> ShareAnswer
+pub fn share(words: &[u32], size: u32) -> Result<HitShare, Refusal>
     ensures { result ≡ share_call words.now size }
 {
     if !well_formed(words) {
-        return ShareAnswer::Refused(5);
+        return Err(Refusal::NotASummary);
     }
     let hits = hits(words, size);
     let reads = words[0];
     let servable = reads - words[1];
-    ShareAnswer::Answered(share_of(hits, servable))
+    Ok(share_of(hits, servable))
 }
 
 // Hits by the reads that some size could have served, both whole numbers: one division, rounded once.

@@ -11,27 +11,26 @@ ghost use Rattle.summary_calls.specs.Calls.{join_call, wrote};
 ghost use Rattle.summary_cross.specs.Crossing.{added, crossed};
 ghost use Rattle.summary_join.specs.Joining.{Joinable};
 
-use reuse::MAX_EXTENTS;
-use summary_calls::Written;
+use reuse::{MAX_EXTENTS, Refusal};
 use summary_formed::well_formed;
 
 // The summary of A, then B, at the front of `out`.
-pub fn join(a: &[u32], b: &[u32], out: &mut [u32]) -> Written
+pub fn join(a: &[u32], b: &[u32], out: &mut [u32]) -> Result<usize, Refusal>
     ensures { (result ≡ (join_call a.now b.now out.old).answer) × (out.new ≡ (join_call a.now b.now out.old).buffer) }
 {
     if !well_formed(a) {
-        return Written::Refused(5);
+        return Err(Refusal::NotASummary);
     }
     if !well_formed(b) {
-        return Written::Refused(5);
+        return Err(Refusal::NotASummary);
     }
     let total = a[0] + b[0];
     let extents = extents_of_both(a, b);
     if reuse::MAX_READS < total {
-        return Written::Refused(8);
+        return Err(Refusal::TooManyReads);
     }
     if MAX_EXTENTS < extents {
-        return Written::Refused(9);
+        return Err(Refusal::TooManyExtents);
     }
     write(a, b, out, extents)
 }
@@ -47,7 +46,7 @@ fn extents_of_both(a: &[u32], b: &[u32]) -> usize
 }
 
 // The words of the join of v extents, at the front of `out`, or the refusal where it is too short.
-fn write(a: &[u32], b: &[u32], out: &mut [u32], v: usize) -> Written
+fn write(a: &[u32], b: &[u32], out: &mut [u32], v: usize) -> Result<usize, Refusal>
     requires { Joinable a.now b.now v }
     ensures { (result ≡ (wrote (join_of a.now b.now) out.old).answer) × (out.new ≡ (wrote (join_of a.now b.now) out.old).buffer) }
 {

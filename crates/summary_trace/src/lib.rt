@@ -6,21 +6,21 @@ ghost use Rattle.summary_calls.specs.Calls.{trace_call};
 ghost use Rattle.summary_trace.specs.Tracing.{Blank, Taken};
 
 use reuse_engine::Place;
-use summary_calls::Written;
+use reuse::Refusal;
 
 // The summary of a trace, at the front of `out`.
-pub fn of_trace(trace: &[u32], out: &mut [u32]) -> Written
+pub fn of_trace(trace: &[u32], out: &mut [u32]) -> Result<usize, Refusal>
     ensures { (result ≡ (trace_call trace.now out.old).answer) × (out.new ≡ (trace_call trace.now out.old).buffer) }
 {
     if (reuse::MAX_READS as usize) < trace.len() {
-        return Written::Refused(8);
+        return Err(Refusal::TooManyReads);
     }
     let mut stack = [0u32; reuse::MAX_EXTENTS];
     let mut first = [0u32; reuse::MAX_EXTENTS];
     let mut hist = [0u32; reuse::MAX_EXTENTS];
     let held = take(trace, &mut stack, &mut first, &mut hist);
     if reuse::MAX_EXTENTS < held {
-        return Written::Refused(9);
+        return Err(Refusal::TooManyExtents);
     }
     summary_words::write(
         trace.len() as u32,

@@ -7,28 +7,28 @@ ghost use Rattle.reuse_rows.specs.Rows.{put_at};
 ghost use Rattle.summary_calls.specs.Calls.{words_call};
 ghost use Rattle.summary_words.specs.Parts.{Writable};
 
-use summary_calls::Written;
+use reuse::Refusal;
 
 // The words at the front of `out`, or the refusal: more extents than the limit, or too few words.
-pub fn write(reads: u32, first: &[u32], recent: &[u32], counts: &[u32], out: &mut [u32]) -> Written
+pub fn write(reads: u32, first: &[u32], recent: &[u32], counts: &[u32], out: &mut [u32]) -> Result<usize, Refusal>
     ensures { (result ≡ (words_call reads first.now recent.now counts.now out.old).answer) × (out.new ≡ (words_call reads first.now recent.now counts.now out.old).buffer) }
 {
     if reuse::MAX_EXTENTS < first.len() {
-        return Written::Refused(9);
+        return Err(Refusal::TooManyExtents);
     }
     let after_first = 2 + first.len();
     if out.len() < after_first {
-        return Written::Refused(6);
+        return Err(Refusal::NoRoom);
     }
     if out.len() - after_first < recent.len() {
-        return Written::Refused(6);
+        return Err(Refusal::NoRoom);
     }
     let after_recent = after_first + recent.len();
     if out.len() - after_recent < counts.len() {
-        return Written::Refused(6);
+        return Err(Refusal::NoRoom);
     }
     put_parts(reads, first, recent, counts, out);
-    Written::Words(after_recent + counts.len())
+    Ok(after_recent + counts.len())
 }
 
 // The parts one after the other, where there is room for all of them.

@@ -31,7 +31,7 @@ fn distance_of(answer: Answer) -> u32 {
             sums_read: _,
             slots_looked: _,
         } => distance,
-        Answer::Refused(_) => 0,
+        Err(_) => 0,
     }
 }
 

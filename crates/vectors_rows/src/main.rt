@@ -51,7 +51,7 @@ fn row(rt: &impl Print, call: &str, step: Step) -> io::Result<Session> {
             put(rt, ", sums read ", sums_read)?;
             put(rt, ", slots looked at ", slots_looked)?;
         }
-        Answer::Refused(n) => {
+        Err(n) => {
             put(rt, ": refused ", n)?;
         }
     }

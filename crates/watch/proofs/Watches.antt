@@ -1,4 +1,5 @@
 -- A watch fed the answers to a trace has that trace's counts, and never disagrees with its summary.
+use Rattle.std.specs.Prelude.{Ok}
 use mathlib.Core.Path.{◌≡◌, refl, ap, ◌∙◌}
 use Prim.Native.Nat.{ℕ, suc, ◌+◌, ◌-◌, ◌≤◌}
 use native.Mathlib.Omega.{arith}
@@ -19,18 +20,15 @@ use Rattle.reuse.proofs.Formed.{summary-formed}
 use Rattle.reuse.proofs.Newcomers.{AllUpTo, cold-count, trace-up-to}
 use Rattle.reuse.proofs.Misses.{within-misses, summary-misses, summary-hits}
 use Rattle.reuse.proofs.Servable.{servable-summary}
-use Rattle.summary_calls.specs.declared.MissCount.TheVariants.{Misses}
-use Rattle.summary_calls.specs.declared.ShareAnswer.TheVariants.{Answered}
 use Rattle.summary_calls.specs.Calls.{share_at}
 use Rattle.session.specs.declared.Session.{Session}
 use Rattle.session.specs.Reads.{step_at}
 use Rattle.watch.specs.declared.Watch.{Watch}
-use Rattle.watch.specs.declared.Heard.TheVariants.{Read}
 use Rattle.watch.specs.Watching.{new_of, counted_by, noted_of, misses_call, share_call, heard_of, reading_of, watch_after}
 use Rattle.watch.proofs.Soundness.{Sound, watch-sound}
 
 -- an accepted read's answer is heard as its place in the stack
-pub heard-step : (s : Session) (x : ℕ) (r : Reuse) → heard_of (step_at s x r).answer ≡ Read (reading_of r)
+pub heard-step : (s : Session) (x : ℕ) (r : Reuse) → heard_of (step_at s x r).answer ≡ Ok (reading_of r)
 heard-step s x (cold n) = refl
 heard-step s x (at d) = refl
 
@@ -90,12 +88,12 @@ module _ (c : ℕ) (t : List ℕ) (short : length t ≤ max_reads) (few : length
   watch-fits = record { fits = omega (arith, within-misses c (reuses [] t), length-reuses [] t); short = short }
 
   -- its misses are those of the trace's summary at its size
-  pub watch-misses : misses_call (watch_after (new_of c) (reuses [] t)) ≡ Misses (misses_of (summary_of t) c)
+  pub watch-misses : misses_call (watch_after (new_of c) (reuses [] t)) ≡ Ok (misses_of (summary_of t) c)
   unfolding misses_call
   watch-misses =
       let e : length t - count (within c) (reuses [] t) ≡ misses_of (summary_of t) c =
       omega (arith, within-misses c (reuses [] t), length-reuses [] t, summary-misses c t) in
-      rw (watch-trace, watch-sound _ watch-fits) (ap Misses e)
+      rw (watch-trace, watch-sound _ watch-fits) (ap Ok e)
 
   -- the reads that some size could have served are the summary's
   watch-servable : length t - count is_cold (reuses [] t) ≡ servable_of (summary_of t)
@@ -103,6 +101,6 @@ module _ (c : ℕ) (t : List ℕ) (short : length t ≤ max_reads) (few : length
   watch-servable = rw (cold-count t, servable-summary t)
 
   -- its share is the summary's
-  pub watch-share : share_call (watch_after (new_of c) (reuses [] t)) ≡ Answered (share_at (summary_of t) c)
+  pub watch-share : share_call (watch_after (new_of c) (reuses [] t)) ≡ Ok (share_at (summary_of t) c)
   unfolding share_call
   watch-share = rw (watch-trace, watch-sound _ watch-fits, summary-hits c t (summary-formed t short few), watch-servable)

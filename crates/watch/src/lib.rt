@@ -34,7 +34,7 @@ pub enum Outcome {
 #[derive(Drop)]
 pub struct Change {
     pub watch: Watch,
-    pub outcome: Outcome,
+    pub outcome: Result<(), Refusal>,
 }
 
 // A session's answer: a reading for the watch, or the refusal's number.
@@ -83,7 +83,7 @@ fn counted(w: Watch, cold: u32, hits: u32) -> Change
     if full {
         return Change {
             watch: w,
-            outcome: Outcome::Refused(8),
+            outcome: Err(Refusal::TooManyReads),
         };
     }
     let watch = Watch {
@@ -94,7 +94,7 @@ fn counted(w: Watch, cold: u32, hits: u32) -> Change
     };
     Change {
         watch,
-        outcome: Outcome::Counted,
+        outcome: Ok(()),
     }
 }
 
@@ -105,7 +105,7 @@ pub fn noted(w: Watch, reading: Reading) -> Change
     if !sound(w) {
         return Change {
             watch: w,
-            outcome: Outcome::Refused(7),
+            outcome: Err(Refusal::Unsound),
         };
     }
     match reading {
@@ -133,7 +133,7 @@ fn at_distance(w: Watch, d: u32) -> Change
     if !in_range(d) {
         return Change {
             watch: w,
-            outcome: Outcome::Refused(2),
+            outcome: Err(Refusal::OutOfRange),
         };
     }
     let hit = d <= w.size;
@@ -144,7 +144,7 @@ fn at_distance(w: Watch, d: u32) -> Change
 }
 
 // The same on a record that the caller lends: it is changed there.
-pub fn note(w: &mut Watch, reading: Reading) -> Outcome
+pub fn note(w: &mut Watch, reading: Reading) -> Result<(), Refusal>
     ensures { (result ≡ (noted_of w.old reading).outcome) × (w.new ≡ (noted_of w.old reading).watch) }
 {
     let n = noted(*w, reading);
@@ -153,41 +153,41 @@ pub fn note(w: &mut Watch, reading: Reading) -> Outcome
 }
 
 // The misses: reads less hits.
-pub fn misses(w: Watch) -> MissCount
+pub fn misses(w: Watch) -> Result<u32, Refusal>
     ensures { result ≡ misses_call w }
 {
     if !sound(w) {
-        return MissCount::Refused(7);
+        return Err(Refusal::Unsound);
     }
-    MissCount::Misses(w.reads - w.hits)
+    Ok(w.reads - w.hits)
 }
 
 // The hit share: hits by the reads that some size could have served, reads less cold reads.
-pub fn share(w: Watch) -> ShareAnswer
+pub fn share(w: Watch) -> Result<HitShare, Refusal>
     ensures { result ≡ share_call w }
 {
     if !sound(w) {
-        return ShareAnswer::Refused(7);
+        return Err(Refusal::Unsound);
     }
     let reads = w.reads;
     let servable = reads - w.cold;
-    ShareAnswer::Answered(summary::share_of(w.hits, servable))
+    Ok(summary::share_of(w.hits, servable))
 }
 
 // What the watch takes of a session's answer.
-pub fn reading_of(answer: Answer) -> Heard
+pub fn reading_of(answer: Answer) -> Result<Reading, Refusal>
     ensures { result ≡ heard_of answer }
 {
     match answer {
         Answer::Cold {
             number: _,
             slots_looked: _,
-        } => Heard::Read(Reading::Cold),
+        } => Ok(Reading::Cold),
         Answer::Distance {
             distance,
             sums_read: _,
             slots_looked: _,
-        } => Heard::Read(Reading::Distance(distance)),
-        Answer::Refused(n) => Heard::Refused(n),
+        } => Ok(Reading::Distance(distance)),
+        Err(n) => Err(n),
     }
 }

@@ -1,4 +1,6 @@
 -- A watch in words takes the words of the distance buffer as a watch takes the answers.
+use Rattle.std.specs.Prelude.{Result, Ok, Err}
+use Rattle.reuse.specs.declared.refusals.Refusal.{Refusal}
 use mathlib.Core.Path.{◌≡◌, refl, ap, ◌∙◌}
 use Prim.Native.Nat.{ℕ, ◌+◌, ◌-◌, ◌≤◌, ◌<◌}
 use native.Mathlib.Omega.{arith}
@@ -15,8 +17,6 @@ use Rattle.reuse.proofs.Newcomers.{AllUpTo}
 use Rattle.reuse_rows.specs.Rows.{put_at}
 use Rattle.watch.specs.declared.Watch.{Watch}
 use Rattle.watch.specs.declared.Reading.{Reading}
-use Rattle.watch.specs.declared.Outcome.{Outcome}
-use Rattle.watch.specs.declared.Outcome.TheVariants.{Counted, Refused as NotCounted}
 use Rattle.watch.specs.declared.Change.{Change}
 use Rattle.watch.specs.Watching.{sound_of, in_range, takes, noted_of, reading_of, watch_after}
 use Rattle.watch.proofs.Refusals.{unchanged}
@@ -63,9 +63,9 @@ left-put : (v : Watch) (q : Reading) (w : List ℕ)
     → watch_left (noted_of v q).outcome (noted_of v q).watch (put_at w 0 (watch_laid v)) ≡ put_at w 0 (watch_laid (noted_of v q).watch)
 left-put v q w = by (noted_of v q).outcome refl
   where
-    by : (o : Outcome) → (noted_of v q).outcome ≡ o → watch_left o (noted_of v q).watch (put_at w 0 (watch_laid v)) ≡ put_at w 0 (watch_laid (noted_of v q).watch)
-    by Counted e = put-again v (noted_of v q).watch w
-    by (NotCounted n) e = rw (unchanged v q n e)
+    by : (o : Result Unit Refusal) → (noted_of v q).outcome ≡ o → watch_left o (noted_of v q).watch (put_at w 0 (watch_laid v)) ≡ put_at w 0 (watch_laid (noted_of v q).watch)
+    by (Ok tt) e = put-again v (noted_of v q).watch w
+    by (Err n) e = rw (unchanged v q n e)
 
 -- the words after a list of answers as the distance buffer writes them
 pub fed-words : (v : Watch) (w : List ℕ) → watch_length ≤ length w → (rs : List Reuse) → AllUpTo max_extents rs

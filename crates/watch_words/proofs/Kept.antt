@@ -1,4 +1,7 @@
 -- Words that hold a watch: too few of them, and what a refusal leaves.
+use Rattle.std.specs.Prelude.{Result, Ok, Err}
+use Rattle.reuse.specs.declared.refusals.Refusal.{Refusal}
+use Rattle.reuse.specs.declared.refusals.Refusal.TheVariants.{NoRoom, Unsound}
 use mathlib.Core.Path.{◌≡◌, refl, sym, ap, ◌∙◌}
 use Prim.Native.Nat.{ℕ, ◌+◌, ◌-◌, ◌≤◌, ◌<◌}
 use native.Mathlib.Omega.{arith}
@@ -12,15 +15,10 @@ use Rattle.reuse.specs.Written.{cold_base}
 use Rattle.reuse.proofs.Lists.{by-test}
 use Rattle.reuse_rows.specs.Rows.{put_at}
 use Rattle.reuse_copies.proofs.Puts.{put-length}
-use Rattle.summary_calls.specs.declared.Written.TheVariants.{Words}
-use Rattle.summary_calls.specs.declared.MissCount.TheVariants.{Refused as NoMisses}
-use Rattle.summary_calls.specs.declared.ShareAnswer.TheVariants.{Refused as NoShare}
 use Rattle.summary_calls.specs.Calls.{refused}
 use Rattle.summary_calls.proofs.Calls.{wrote-short, wrote-all}
 use Rattle.watch.specs.declared.Watch.{Watch}
 use Rattle.watch.specs.declared.Reading.TheVariants.{Cold as ColdReading, Distance as DistanceReading}
-use Rattle.watch.specs.declared.Outcome.{Outcome}
-use Rattle.watch.specs.declared.Outcome.TheVariants.{Counted, Refused as NotCounted}
 use Rattle.watch.specs.Watching.{new_of, noted_of, misses_call, share_call}
 use Rattle.watch.specs.Watching.{refused as unnoted}
 use Rattle.watch_words.specs.Layout.{watch_length, watch_in, watch_laid}
@@ -34,28 +32,28 @@ watch-read v w = refl
 module _ (w : List ℕ) where
   module _ (few : length w < watch_length) where
     -- no room for a new watch
-    pub new-watch-short : (size : ℕ) → new_watch size w ≡ refused 6 w
+    pub new-watch-short : (size : ℕ) → new_watch size w ≡ refused NoRoom w
     unfolding new_watch watch_laid
     new-watch-short size = wrote-short (watch_laid (new_of size)) w few
 
     -- no watch to tell
-    pub note-short : (d : ℕ) → note_in w d ≡ unnoted (watch_in w) 7
+    pub note-short : (d : ℕ) → note_in w d ≡ unnoted (watch_in w) Unsound
     unfolding note_in
     note-short d = simp (lt-leb watch_length (length w) few)
 
     -- none that has misses
-    pub misses-short : misses_in w ≡ NoMisses 7
+    pub misses-short : misses_in w ≡ Err Unsound
     unfolding misses_in
     misses-short = simp (lt-leb watch_length (length w) few)
 
     -- none that has a share
-    pub share-short : share_in w ≡ NoShare 7
+    pub share-short : share_in w ≡ Err Unsound
     unfolding share_in
     share-short = simp (lt-leb watch_length (length w) few)
 
   module _ (enough : watch_length ≤ length w) where
     -- a new watch is written
-    pub new-watch-all : (size : ℕ) → new_watch size w ≡ record { answer = Words watch_length; buffer = put_at w 0 (watch_laid (new_of size)) }
+    pub new-watch-all : (size : ℕ) → new_watch size w ≡ record { answer = Ok watch_length; buffer = put_at w 0 (watch_laid (new_of size)) }
     unfolding new_watch watch_laid
     new-watch-all size = wrote-all (watch_laid (new_of size)) w watch_length refl enough
 
@@ -82,14 +80,14 @@ note-kept v w l d =
     note-all (put_at w 0 (watch_laid v)) (omega (arith, l, e)) d ∙ ap (λ (t : Watch). noted_of t (reading_at d)) (watch-read v w)
 
 -- an update that is counted puts the watch's words
-pub left-counted : (o : Outcome) (s : Watch) (w : List ℕ) → is_counted o ≡ true → watch_left o s w ≡ put_at w 0 (watch_laid s)
-left-counted Counted s w e = refl
-left-counted (NotCounted n) s w e = absurd (false≢true e)
+pub left-counted : (o : Result Unit Refusal) (s : Watch) (w : List ℕ) → is_counted o ≡ true → watch_left o s w ≡ put_at w 0 (watch_laid s)
+left-counted (Ok tt) s w e = refl
+left-counted (Err n) s w e = absurd (false≢true e)
 
 -- a refusal leaves them
-pub left-uncounted : (o : Outcome) (s : Watch) (w : List ℕ) → is_counted o ≡ false → watch_left o s w ≡ w
-left-uncounted Counted s w e = absurd (true≢false e)
-left-uncounted (NotCounted n) s w e = refl
+pub left-uncounted : (o : Result Unit Refusal) (s : Watch) (w : List ℕ) → is_counted o ≡ false → watch_left o s w ≡ w
+left-uncounted (Ok tt) s w e = absurd (true≢false e)
+left-uncounted (Err n) s w e = refl
 
 -- a word by whether it is a cold read's
 pub reading-is : (d : ℕ) (b : Bool) → is_cold_word d ≡ b → reading_at d ≡ cond b ColdReading (DistanceReading d)

@@ -1,18 +1,15 @@
 -- What the calls on words that hold a watch answer and leave.
-use Rattle.std.specs.Prelude.{ℕ, ◌+◌, Bool, true, false, cond, ◌&&◌, List, [], ◌∷◌, leb, ltb, length}
+use Rattle.summary_calls.specs.declared.HitShare.{HitShare}
+use Rattle.std.specs.Prelude.{ℕ, ◌+◌, Bool, true, false, cond, ◌&&◌, List, [], ◌∷◌, leb, ltb, length, Result, Ok, Err}
+use Rattle.reuse.specs.declared.refusals.Refusal.{Refusal}
+use Rattle.reuse.specs.declared.refusals.Refusal.TheVariants.{Unsound}
 use Rattle.reuse.specs.Limits.{max_extents}
 use Rattle.reuse.specs.Written.{cold_base}
 use Rattle.reuse_rows.specs.Rows.{put_at}
-use Rattle.summary_calls.specs.declared.MissCount.{MissCount}
-use Rattle.summary_calls.specs.declared.MissCount.TheVariants.{Refused as NoMisses}
-use Rattle.summary_calls.specs.declared.ShareAnswer.{ShareAnswer}
-use Rattle.summary_calls.specs.declared.ShareAnswer.TheVariants.{Refused as NoShare}
 use Rattle.summary_calls.specs.Calls.{Wrote, wrote}
 use Rattle.watch.specs.declared.Watch.{Watch}
 use Rattle.watch.specs.declared.Reading.{Reading}
 use Rattle.watch.specs.declared.Reading.TheVariants.{Cold as ColdReading, Distance as DistanceReading}
-use Rattle.watch.specs.declared.Outcome.{Outcome}
-use Rattle.watch.specs.declared.Outcome.TheVariants.{Counted, Refused as NotCounted}
 use Rattle.watch.specs.declared.Change.{Change}
 use Rattle.watch.specs.Watching.{new_of, noted_of, misses_call, share_call}
 use Rattle.watch.specs.Watching.{refused as unnoted}
@@ -32,12 +29,12 @@ reading_at word = cond (is_cold_word word) ColdReading (DistanceReading word)
 
 -- an update of the watch in the first words; too few words are no sound watch
 unfoldable pub note_in : List ℕ → ℕ → Change
-note_in w word = cond (leb watch_length (length w)) (noted_of (watch_in w) (reading_at word)) (unnoted (watch_in w) 7)
+note_in w word = cond (leb watch_length (length w)) (noted_of (watch_in w) (reading_at word)) (unnoted (watch_in w) Unsound)
 
 -- the words after an update: the watch's at their front; a refusal leaves them as they were
-abbrev pub watch_left : Outcome → Watch → List ℕ → List ℕ
-watch_left Counted s w = put_at w 0 (watch_laid s)
-watch_left (NotCounted n) s w = w
+abbrev pub watch_left : Result Unit Refusal → Watch → List ℕ → List ℕ
+watch_left (Ok tt) s w = put_at w 0 (watch_laid s)
+watch_left (Err n) s w = w
 
 -- the words after a list of updates, each of the words that the last one left
 unfoldable pub words_after : List ℕ → List ℕ → List ℕ
@@ -45,14 +42,14 @@ words_after w [] = w
 words_after w (d ∷ ds) = words_after (watch_left (note_in w d).outcome (note_in w d).watch w) ds
 
 -- the misses of the watch in the first words
-unfoldable pub misses_in : List ℕ → MissCount
-misses_in w = cond (leb watch_length (length w)) (misses_call (watch_in w)) (NoMisses 7)
+unfoldable pub misses_in : List ℕ → Result ℕ Refusal
+misses_in w = cond (leb watch_length (length w)) (misses_call (watch_in w)) (Err Unsound)
 
 -- the hit share of the watch in the first words
-unfoldable pub share_in : List ℕ → ShareAnswer
-share_in w = cond (leb watch_length (length w)) (share_call (watch_in w)) (NoShare 7)
+unfoldable pub share_in : List ℕ → Result HitShare Refusal
+share_in w = cond (leb watch_length (length w)) (share_call (watch_in w)) (Err Unsound)
 
 -- an update was counted
-abbrev pub is_counted : Outcome → Bool
-is_counted Counted = true
-is_counted (NotCounted n) = false
+abbrev pub is_counted : Result Unit Refusal → Bool
+is_counted (Ok tt) = true
+is_counted (Err n) = false

@@ -55,33 +55,33 @@ fn reading(word: u32) -> Reading
 }
 
 // Whether an update was counted.
-fn was_counted(o: Outcome) -> bool
+fn was_counted(o: Result<(), Refusal>) -> bool
     ensures { result ≡ is_counted o }
 {
     match o {
-        Outcome::Counted => true,
-        Outcome::Refused(_) => false,
+        Ok(()) => true,
+        Err(_) => false,
     }
 }
 
 // A new watch's words at the front of the row.
-pub fn new_watch(size: u32, words: &mut [u32]) -> Written
+pub fn new_watch(size: u32, words: &mut [u32]) -> Result<usize, Refusal>
     ensures { (result ≡ (new_watch size words.old).answer) × (words.new ≡ (new_watch size words.old).buffer) }
 {
     if words.len() < WATCH {
-        return Written::Refused(6);
+        return Err(Refusal::NoRoom);
     }
     let w = watch::new_watch(size);
     put_watch(words, w);
-    Written::Words(WATCH)
+    Ok(WATCH)
 }
 
 // The watch in the words takes one more answer, as the buffer of distances writes it.
-pub fn read(words: &mut [u32], word: u32) -> Outcome
+pub fn read(words: &mut [u32], word: u32) -> Result<(), Refusal>
     ensures { (result ≡ (note_in words.old word).outcome) × (words.new ≡ watch_left (note_in words.old word).outcome (note_in words.old word).watch words.old) }
 {
     if words.len() < WATCH {
-        return Outcome::Refused(7);
+        return Err(Refusal::Unsound);
     }
     let w = watch_in(words);
     let change = watch::noted(w, reading(word));
@@ -95,21 +95,21 @@ pub fn read(words: &mut [u32], word: u32) -> Outcome
 }
 
 // The misses of the watch in the words.
-pub fn misses(words: &[u32]) -> MissCount
+pub fn misses(words: &[u32]) -> Result<u32, Refusal>
     ensures { result ≡ misses_in words.now }
 {
     if words.len() < WATCH {
-        return MissCount::Refused(7);
+        return Err(Refusal::Unsound);
     }
     watch::misses(watch_in(words))
 }
 
 // The hit share of the watch in the words.
-pub fn share(words: &[u32]) -> ShareAnswer
+pub fn share(words: &[u32]) -> Result<HitShare, Refusal>
     ensures { result ≡ share_in words.now }
 {
     if words.len() < WATCH {
-        return ShareAnswer::Refused(7);
+        return Err(Refusal::Unsound);
     }
     watch::share(watch_in(words))
 }

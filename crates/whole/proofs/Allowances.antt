@@ -1,4 +1,6 @@
 -- The smallest cache for a miss allowance, of any summary's words and of logs, proved.
+use Rattle.std.specs.Prelude.{Result, Ok}
+use Rattle.reuse.specs.declared.refusals.Refusal.{Refusal}
 use Prim.Native.Nat.{ℕ, suc, ◌≤◌}
 use mathlib.Core.Path.{◌≡◌, sym, ap, ◌∙◌, fun_ext}
 use native.Mathlib.Omega.{arith}
@@ -14,10 +16,7 @@ use Rattle.reuse.proofs.Words.{extents-summary}
 use Rattle.reuse.proofs.Formed.{formed, summary-well-formed}
 use Rattle.reuse.proofs.Misses.{summary-cache}
 use Rattle.reuse.proofs.Newcomers.{cold-count}
-use Rattle.summary_calls.specs.declared.MissCount.{MissCount}
-use Rattle.summary_calls.specs.declared.MissCount.TheVariants.{Misses}
 use Rattle.summary_calls.specs.Calls.{misses_call}
-use Rattle.allowance_calls.specs.declared.SizeAnswer.TheVariants.{Size}
 use Rattle.allowance_calls.specs.Smallest.{misses_list, smallest, SmallestOfAll}
 use Rattle.allowance_calls.specs.Calls.{smallest_call}
 use Rattle.allowance_calls.specs.Refusals.{Refusals}
@@ -32,16 +31,16 @@ use Rattle.whole.proofs.Groupings.{groupings}
 
 module _ (w : List ℕ) (h : well_formed w ≡ true) where
   -- the call for the misses at any size
-  miss : (c : ℕ) → misses_call w c ≡ Misses (misses_of w c)
+  miss : (c : ℕ) → misses_call w c ≡ Ok (misses_of w c)
   unfolding misses_call
   miss c = rw h
 
   -- at all sizes to v
-  listed : map (misses_call w) (from 0 (suc (extents_of w))) ≡ map Misses (misses_list w)
+  listed : map (misses_call w) (from 0 (suc (extents_of w))) ≡ map Ok (misses_list w)
   unfolding misses_list
   listed =
-      ap (λ (f : ℕ → MissCount). map f (from 0 (suc (extents_of w)))) (fun_ext miss)
-      ∙ sym (map-map Misses (misses_of w) (from 0 (suc (extents_of w))))
+      ap (λ (f : ℕ → Result ℕ Refusal). map f (from 0 (suc (extents_of w)))) (fun_ext miss)
+      ∙ sym (map-map Ok (misses_of w) (from 0 (suc (extents_of w))))
 
   -- of every allowance of at least the cold reads
   pub allowances : (m : ℕ) → extents_of w ≤ m → Allowances w m
@@ -75,7 +74,7 @@ module _ (t : List ℕ) (w : Within t) (m : ℕ) where
       ∙ ap (λ (n : ℕ). map (λ c. cache_misses c t) (from 0 (suc n))) (extents-summary t)
 
   -- the size answered, from the cold reads up
-  found : extents_of (summary_of t) ≤ m → (s : ℕ) × (smallest_call (summary_of t) m ≡ Size s s) × SmallestOfAll (λ c. cache_misses c t) m s
+  found : extents_of (summary_of t) ≤ m → (s : ℕ) × (smallest_call (summary_of t) m ≡ Ok (record { size = s; words_read = s })) × SmallestOfAll (λ c. cache_misses c t) m s
   found e = (
     smallest (summary_of t) m,
     call-size (summary_of t) m passes e,

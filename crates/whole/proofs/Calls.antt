@@ -1,4 +1,7 @@
 -- Lists of read calls, refused ones included: what they answer, and what the session then stands for.
+use Rattle.std.specs.Prelude.{Result, Ok, Err}
+use Rattle.reuse.specs.declared.refusals.Refusal.{Refusal}
+use Rattle.reuse.specs.declared.refusals.Refusal.TheVariants.{TooManyReads, TooManyExtents}
 use Prim.Native.Nat.{ℕ, suc, ◌≤◌}
 use mathlib.Core.Path.{◌≡◌, refl, sym, ap, ◌∙◌}
 use mathlib.Core.List.{List, [], ◌∷◌, ◌++◌, map, map-map, append_assoc, append-nil}
@@ -19,7 +22,7 @@ use Rattle.reuse.proofs.Depth.{distance-law}
 use Rattle.session.specs.declared.Session.{Session}
 use Rattle.session.specs.declared.Step.{Step}
 use Rattle.session_calls.specs.declared.Answer.{Answer}
-use Rattle.session_calls.specs.declared.Answer.TheVariants.{Cold, Distance, Refused}
+use Rattle.session_calls.specs.declared.Answer.TheVariants.{Cold, Distance}
 use Rattle.session.specs.Sessions.{old_of, fresh}
 use Rattle.session.specs.Reads.{roomed, step_at, refused as read_refused, read_of}
 use Rattle.session_calls.proofs.Sound.{kept-few}
@@ -71,10 +74,10 @@ step-seen s x (gives (at d)) = refl
 step-seen s x (refused n) = refl
 
 -- a read's answer decides how the log grows
-kept-grown : (a : Answer) (t l : List ℕ) (x : ℕ) → t ++ keep a x l ≡ grown (seen_of a) t x ++ l
-kept-grown (Cold n k) t l x = sym (append_assoc t (x ∷ []) l)
-kept-grown (Distance d n k) t l x = sym (append_assoc t (x ∷ []) l)
-kept-grown (Refused n) t l x = refl
+kept-grown : (a : Result Answer Refusal) (t l : List ℕ) (x : ℕ) → t ++ keep a x l ≡ grown (seen_of a) t x ++ l
+kept-grown (Ok (Cold n k)) t l x = sym (append_assoc t (x ∷ []) l)
+kept-grown (Ok (Distance d n k)) t l x = sym (append_assoc t (x ∷ []) l)
+kept-grown (Err n) t l x = refl
 
 module _ (s : Session) (t : List ℕ) (g : Stands s t) (x : ℕ) where
   -- a read is the one owed
@@ -86,7 +89,7 @@ module _ (s : Session) (t : List ℕ) (g : Stands s t) (x : ℕ) where
       (by (ltb max_reads (length (t ++ (x ∷ [])))) (ltb max_extents (length (firsts (t ++ (x ∷ []))))))
     where
       -- by the two conditions
-      by : (c d : Bool) → cond c (read_refused s 8) (cond d (read_refused s 9) (step_at (roomed s) x (distance t x)))
+      by : (c d : Bool) → cond c (read_refused s TooManyReads) (cond d (read_refused s TooManyExtents) (step_at (roomed s) x (distance t x)))
           ≡ step_for s x (cond c (refused 8) (cond d (refused 9) (gives (distance t x))))
       by true d = refl
       by false true = refl
@@ -201,10 +204,10 @@ all-accepted (x ∷ u) s t g w =
     ∙ ap {B = List ℕ} (λ l. x ∷ l) (all-accepted u (read_of s x).session (t ++ (x ∷ [])) stands (rw append_assoc w))
   where
     -- an answer that is no refusal is kept
-    by : (a : Answer) → seen_of a ≡ gives (distance t x) → keep a x (accepted (read_of s x).session u) ≡ x ∷ accepted (read_of s x).session u
-    by (Cold n k) e = refl
-    by (Distance d n k) e = refl
-    by (Refused n) e = let z : ◌≡◌ {A = ℕ} 0 1 = cc in absurd (omega arith)
+    by : (a : Result Answer Refusal) → seen_of a ≡ gives (distance t x) → keep a x (accepted (read_of s x).session u) ≡ x ∷ accepted (read_of s x).session u
+    by (Ok (Cold n k)) e = refl
+    by (Ok (Distance d n k)) e = refl
+    by (Err n) e = let z : ◌≡◌ {A = ℕ} 0 1 = cc in absurd (omega arith)
 
     -- the log grows by the read
     stands : Stands (read_of s x).session (t ++ (x ∷ []))
@@ -235,11 +238,11 @@ seen_word (gives r) = word_of r
 seen_word (refused n) = 0
 
 -- so of a list of answers
-seen-words : (l : List Answer) → map seen_word (map seen_of l) ≡ map written l
+seen-words : (l : List (Result Result Answer Refusal Refusal)) → map seen_word (map seen_of l) ≡ map written l
 seen-words [] = refl
-seen-words (Cold n k ∷ l) = ap {B = List ℕ} (λ r. word_of (cold n) ∷ r) (seen-words l)
-seen-words (Distance d n k ∷ l) = ap {B = List ℕ} (λ r. word_of (at d) ∷ r) (seen-words l)
-seen-words (Refused n ∷ l) = ap {B = List ℕ} (λ r. 0 ∷ r) (seen-words l)
+seen-words (Ok (Cold n k ∷ l)) = ap {B = List ℕ} (λ r. word_of (cold n) ∷ r) (seen-words l)
+seen-words (Ok (Distance d n k ∷ l)) = ap {B = List ℕ} (λ r. word_of (at d) ∷ r) (seen-words l)
+seen-words (Err n ∷ l) = ap {B = List ℕ} (λ r. 0 ∷ r) (seen-words l)
 
 -- the uncut reading's answers as the buffer writes them
 pub uncut-words : (t : List ℕ) → Within t → map written (answers_of fresh t) ≡ map word_of (reuses [] t)

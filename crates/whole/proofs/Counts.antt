@@ -1,4 +1,6 @@
 -- The misses and the hit shares of a log are those of the cache that reads it.
+use Rattle.std.specs.Prelude.{Result, Ok, Err}
+use Rattle.reuse.specs.declared.refusals.Refusal.{Refusal}
 use Prim.Native.Nat.{ℕ, ◌≤◌}
 use mathlib.Core.Path.{◌≡◌, refl, sym, ap, ◌∙◌}
 use mathlib.Core.List.{List, [], ◌∷◌, map}
@@ -14,11 +16,9 @@ use Rattle.reuse.proofs.Newcomers.{cold-count, trace-up-to}
 use Rattle.reuse.proofs.Misses.{cache-hits, summary-cache, summary-hits}
 use Rattle.reuse.proofs.Servable.{servable-summary}
 use Rattle.reuse_rows.specs.Rows.{put_at}
-use Rattle.summary_calls.specs.declared.MissCount.TheVariants.{Misses}
-use Rattle.summary_calls.specs.declared.ShareAnswer.TheVariants.{Answered}
 use Rattle.summary_calls.specs.Calls.{misses_call, share_at, share_call}
 use Rattle.session_calls.specs.declared.Answer.{Answer}
-use Rattle.session_calls.specs.declared.Answer.TheVariants.{Cold, Distance, Refused}
+use Rattle.session_calls.specs.declared.Answer.TheVariants.{Cold, Distance}
 use Rattle.session.specs.Sessions.{fresh}
 use Rattle.session_summary.proofs.Summaries.{misses-cache, share-trace}
 use Rattle.watch.specs.declared.Watch.{Watch}
@@ -40,12 +40,12 @@ saw w (gives r ∷ l) = saw (noted_of w (reading_of r)).watch l
 saw w (refused n ∷ l) = saw w l
 
 -- a watch that hears a session's answers hears what is seen of them
-hears-seen : (l : List Answer) (w : Watch) → watching w l ≡ saw w (map seen_of l)
+hears-seen : (l : List (Result Result Answer Refusal Refusal)) (w : Watch) → watching w l ≡ saw w (map seen_of l)
 unfolding watching saw
 hears-seen [] w = refl
-hears-seen (Cold n k ∷ l) w = hears-seen l _
-hears-seen (Distance d n k ∷ l) w = hears-seen l _
-hears-seen (Refused n ∷ l) w = hears-seen l w
+hears-seen (Ok (Cold n k ∷ l)) w = hears-seen l _
+hears-seen (Ok (Distance d n k ∷ l)) w = hears-seen l _
+hears-seen (Err n ∷ l) w = hears-seen l w
 
 -- what is seen of a trace's answers
 saw-trace : (rs : List Reuse) (w : Watch) → saw w (map gives rs) ≡ watch_after w rs
@@ -59,7 +59,7 @@ module _ (c : ℕ) (t : List ℕ) (w : Within t) where
   words-hits = summary-hits c t (summary-formed t w.reads w.extents) ∙ sym (cache-hits c t)
 
   -- so is their share
-  share-words : Answered (share_at (summary_of t) c) ≡ cache_share c t
+  share-words : Ok (share_at (summary_of t) c) ≡ cache_share c t
   share-words = rw (words-hits, servable-summary t)
 
   -- the watch hears the trace's answers
@@ -78,12 +78,12 @@ module _ (c : ℕ) (t : List ℕ) (w : Within t) where
   counts =
       let formed : well_formed (summary_of t) ≡ true = summary-well-formed t w.reads w.extents in
       record {
-        words-misses = rw formed (ap Misses (summary-cache c t));
+        words-misses = rw formed (ap Ok (summary-cache c t));
         words-share = rw formed share-words;
         session-misses = misses-cache (session_after fresh t) t c (trace-stands t w);
         session-share = share-trace (session_after fresh t) t c (trace-stands t w) ∙ share-words;
         watched = heard-trace ∙ watch-trace c t w.reads w.extents ∙ simp (cold-count t, cache-hits c t);
         words-watched = λ buffer enough. words-fed buffer enough;
-        watch-misses = ap watch_misses heard-trace ∙ watch-misses c t w.reads w.extents ∙ ap Misses (summary-cache c t);
+        watch-misses = ap watch_misses heard-trace ∙ watch-misses c t w.reads w.extents ∙ ap Ok (summary-cache c t);
         watch-share = ap watch_share heard-trace ∙ watch-share c t w.reads w.extents ∙ share-words;
       }

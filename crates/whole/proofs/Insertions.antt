@@ -1,4 +1,6 @@
 -- What one more read does to the misses of a log, proved.
+use Rattle.std.specs.Prelude.{Result, Ok, Err}
+use Rattle.reuse.specs.declared.refusals.Refusal.{Refusal}
 use Prim.Native.Nat.{ℕ, zero, suc, ◌<◌}
 use mathlib.Core.Path.{◌≡◌, sym, ap, ap₂, ◌∙◌}
 use native.Mathlib.Omega.{arith}
@@ -7,11 +9,8 @@ use lib.IntN.{ℤ, pos, ◌-ℤ◌}
 use lib.Signed.{◌≤ℤ◌}
 use Rattle.reuse.specs.Cache.{cache_misses}
 use Rattle.reuse.specs.Traces.{Within}
-use Rattle.summary_calls.specs.declared.MissCount.{MissCount}
-use Rattle.summary_calls.specs.declared.MissCount.TheVariants.{Misses, Refused}
 use Rattle.session.specs.Sessions.{fresh}
 use Rattle.session_summary.specs.Summaries.{misses_call}
-use Rattle.insertion_calls.specs.declared.InsertionAnswer.TheVariants.{Change}
 use Rattle.insertion_calls.specs.Insertion.{put, change_of, Bounded}
 use Rattle.insertion_calls.specs.Calls.{insertion_call}
 use Rattle.insertion_calls.proofs.Puts.{within-put}
@@ -24,12 +23,12 @@ use Rattle.whole.specs.Insertions.{Insertions, EndsReached}
 use Rattle.whole.proofs.Counts.{counts}
 
 -- the number in an answer of misses
-abbrev misses_in : MissCount → ℕ
-misses_in (Misses n) = n
-misses_in (Refused n) = 0
+abbrev misses_in : Result ℕ Refusal → ℕ
+misses_in (Ok n) = n
+misses_in (Err n) = 0
 
 -- what a session tells of the log it read
-told : (c : ℕ) (t : List ℕ) → Within t → (n : ℕ) → misses_call (session_after fresh t) c ≡ Misses n → cache_misses c t ≡ n
+told : (c : ℕ) (t : List ℕ) → Within t → (n : ℕ) → misses_call (session_after fresh t) c ≡ Ok n → cache_misses c t ≡ n
 told c t w n e = ap misses_in (sym (counts c t w).session-misses ∙ e)
 
 -- below size 2 no read spares a miss
@@ -40,7 +39,7 @@ none-spared (suc (suc c)) place x t l = absurd (omega arith)
 
 module _ (t : List ℕ) (place x c : ℕ) where
   -- what the call answers lies in the range
-  in-range : (d : ℤ) → insertion_call t place x c ≡ Change d → Bounded c d
+  in-range : (d : ℤ) → insertion_call t place x c ≡ Ok d → Bounded c d
   in-range d e = rw (change-is t place x c d e) (change-bounded c place x t)
 
   -- of every log, place, extent and size
@@ -51,7 +50,7 @@ module _ (t : List ℕ) (place x c : ℕ) where
     cached = change-cache c place x t;
     readings = λ l w with without e f.
         call-change t place x c l w
-        ∙ ap Change
+        ∙ ap Ok
         (change-cache c place x t
         ∙ ap₂ (λ (a b : ℕ). pos a -ℤ pos b) (told c (put place x t) w with e) (told c t (within-put place x t w) without f));
     nothing-held = λ z. rw z (change-zero place x t);

@@ -1,4 +1,6 @@
 -- Every run of calls from a new session with no name set: what it answers, and what its session and its names stand for.
+use Rattle.std.specs.Prelude.{Ok, Err}
+use Rattle.reuse.specs.declared.refusals.Refusal.TheVariants.{OutOfRange, NoRoom}
 use mathlib.Core.Path.{◌≡◌, refl, ap, ◌∙◌}
 use Prim.Native.Nat.{ℕ}
 use mathlib.Core.List.{List, [], ◌∷◌, map}
@@ -11,7 +13,6 @@ use Rattle.session.specs.declared.Session.{Session}
 use Rattle.session.specs.Sessions.{fresh, sound}
 use Rattle.session.specs.Reads.{read_of}
 use Rattle.session_traces.proofs.Stands.{Stands, fresh-stands}
-use Rattle.moments.specs.declared.MomentAnswer.TheVariants.{Done, Refused}
 use Rattle.moments.specs.declared.Returned.{Returned}
 use Rattle.moments.specs.Names.{is_name, lies, is_set, session_under, named_in, Named, name_call, return_call}
 use Rattle.moments.proofs.Places.{set-name, named-length, named_set, named-session, other-set, other-session}
@@ -54,11 +55,11 @@ module _ (lent : ℕ) (s : State) (m : Memory) (a : Agrees lent s m) where
 
   module _ (k : ℕ) (is : is_name k ≡ true) where
     -- a naming with room for the place
-    naming : lies lent k ≡ true → name_call s.session s.names k ≡ record { answer = Done; names = named_in s.names k s.session }
+    naming : lies lent k ≡ true → name_call s.session s.names k ≡ record { answer = Ok tt; names = named_in s.names k s.session }
     naming e = name_done s.session s.names k is sound-now (rw a.words e)
 
     -- a return to a name that remembers a log
-    returning : (t : List ℕ) → m.under k ≡ log t → return_call s.session s.names k ≡ record { session = session_under s.names k; answer = Done }
+    returning : (t : List ℕ) → m.under k ≡ log t → return_call s.session s.names k ≡ record { session = session_under s.names k; answer = Ok tt }
     returning t e =
         let h : Holds s.names k (log t) = rw e at (a.moments k) in
         return-done s.session s.names k is h.0 h.1.stands.is-sound
@@ -95,14 +96,14 @@ module _ (lent : ℕ) (s : State) (m : Memory) (a : Agrees lent s m) where
 
   -- a naming, by whether the number is a name and there is room for its place
   name-told : (k : ℕ) (b : Bool) → is_name k ≡ b → (c : Bool) → lies lent k ≡ c
-      → (name_call s.session s.names k).answer ≡ cond b (cond c Done (Refused 6)) (Refused 2)
+      → (name_call s.session s.names k).answer ≡ cond b (cond c (Ok tt) (Err NoRoom)) (Err OutOfRange)
   name-told k true e true f = ap (λ (n : Named). n.answer) (naming k e f)
   name-told k true e false f = ap (λ (n : Named). n.answer) (name-short s.session s.names k e sound-now (rw a.words f))
   name-told k false e c f = ap (λ (n : Named). n.answer) (name-not s.session s.names k e)
 
   -- a return, by whether the number is a name and what it remembers
   return-told : (k : ℕ) (b : Bool) → is_name k ≡ b → (o : Moment) → m.under k ≡ o
-      → (return_call s.session s.names k).answer ≡ cond b (moment_owed o) (Refused 2)
+      → (return_call s.session s.names k).answer ≡ cond b (moment_owed o) (Err OutOfRange)
   return-told k true e none q = ap (λ (r : Returned). r.answer) (return-unset s.session s.names k e (unset k e q))
   return-told k true e (log t) q = ap (λ (r : Returned). r.answer) (returning k e t q)
   return-told k false e o q = ap (λ (r : Returned). r.answer) (return-not s.session s.names k e)
@@ -116,7 +117,7 @@ module _ (lent : ℕ) (s : State) (m : Memory) (a : Agrees lent s m) where
   -- a naming leaves words that hold what is remembered
   name-left : (k : ℕ) (b : Bool) → is_name k ≡ b → (c : Bool) → lies lent k ≡ c
       → Agrees lent (record { session = s.session; names = (name_call s.session s.names k).names })
-      (record { now = m.now; under = noted (cond b (cond c Done (Refused 6)) (Refused 2)) m k })
+      (record { now = m.now; under = noted (cond b (cond c (Ok tt) (Err NoRoom)) (Err OutOfRange)) m k })
   name-left k true e true f =
       rw (naming k e f)
       (record {

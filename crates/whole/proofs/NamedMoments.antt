@@ -1,4 +1,5 @@
 -- Named moments: every list of calls, a return, and reads alone.
+use Rattle.std.specs.Prelude.{Ok}
 use mathlib.Core.Path.{◌≡◌, refl, sym, ap, ◌∙◌}
 use Prim.Native.Nat.{ℕ}
 use mathlib.Core.List.{List, [], ◌∷◌, ◌++◌, map}
@@ -11,7 +12,6 @@ use Rattle.session_traces.proofs.Stands.{fresh-stands}
 use Rattle.moments.specs.Names.{is_name, lies}
 use Rattle.whole.specs.Runs.{session_after, answers_of}
 use Rattle.whole.specs.Owed.{owed}
-use Rattle.moments.specs.declared.MomentAnswer.TheVariants.{Done}
 use Rattle.whole.specs.Moments.{Call, read, name, return_to, reading, moment, heard, State, left, state_after, told_by, begun, Unset}
 use Rattle.whole.specs.Remembered.{Moment, none, log, Memory, nothing, owed_for, then, remember, owed_by, remembered, spares}
 use Rattle.whole.specs.NamedMoments.{HasLog, Remembers, coming_back, ComesBack, ReadsAlone}
@@ -85,14 +85,14 @@ module _ (names : List ℕ) (unset : Unset names) (before : List Call) (k : ℕ)
   reached = remember-append lent before (name k ∷ between) nothing
 
   -- the return and the reads are owed what they are after the log as it stood at naming
-  owed-then : owed_by lent at_return (return_to k ∷ map read reads) ≡ moment Done ∷ map reading (owed at-naming.now reads)
+  owed-then : owed_by lent at_return (return_to k ∷ map read reads) ≡ moment (Ok tt) ∷ map reading (owed at-naming.now reads)
   owed-then =
       owed_by-first lent at_return (return_to k) (map read reads)
       ∙ rw (back-owed lent at-naming k is fits between spared, reads_owed lent reads (then lent at_return (return_to k)), back-now lent at-naming k is fits between spared)
 
   -- so they answer
   answers : map heard (told_by (begun names) (coming_back before k between reads))
-      ≡ map heard (told_by (begun names) first) ++ (moment Done ∷ map reading (owed (remembered lent before) reads))
+      ≡ map heard (told_by (begun names) first) ++ (moment (Ok tt) ∷ map reading (owed (remembered lent before) reads))
   unfolding remembered
   answers =
       run-answers names unset (coming_back before k between reads)

@@ -1,4 +1,6 @@
 -- Laws of what is remembered: reads alone, returns, and the refusals there are.
+use Rattle.std.specs.Prelude.{Ok, Err}
+use Rattle.reuse.specs.declared.refusals.Refusal.TheVariants.{OutOfRange, NoRoom}
 use mathlib.Core.Path.{◌≡◌, refl, sym, ap, ◌∙◌}
 use Prim.Native.Nat.{ℕ, ◌≤◌}
 use mathlib.Core.List.{List, [], ◌∷◌, ◌++◌, map, append-nil}
@@ -13,7 +15,6 @@ use Rattle.reuse.proofs.Lists.{both, eqb_same}
 use Rattle.session.specs.declared.Session.{Session}
 use Rattle.session.specs.Reads.{read_of}
 use Rattle.session_traces.proofs.Stands.{Stands}
-use Rattle.moments.specs.declared.MomentAnswer.TheVariants.{Done, Refused}
 use Rattle.moments.specs.Names.{names_length, is_name, lies}
 use Rattle.moments.proofs.Places.{names-lie}
 use Rattle.whole.specs.Runs.{gives, refused, accepted}
@@ -66,7 +67,7 @@ module _ (lent : ℕ) where
       spared cs k (then lent m (name j)) p.1 ∙ by (is_name j) (lies lent j) (not-true (eqb k j) p.0)
     where
       -- by the answer of the naming
-      by : (b c : Bool) → eqb k j ≡ false → noted (cond b (cond c Done (Refused 6)) (Refused 2)) m j k ≡ m.under k
+      by : (b c : Bool) → eqb k j ≡ false → noted (cond b (cond c (Ok tt) (Err NoRoom)) (Err OutOfRange)) m j k ≡ m.under k
       by true true q = rw q
       by true false q = refl
       by false c q = refl
@@ -80,7 +81,7 @@ module _ (lent : ℕ) where
     still = spared calls k (then lent m (name k)) h ∙ rw (is, fits, eqb_same k)
 
     -- a return to it is done
-    pub back-owed : owed_for lent (remember lent m (name k ∷ calls)) (return_to k) ≡ moment Done
+    pub back-owed : owed_for lent (remember lent m (name k ∷ calls)) (return_to k) ≡ moment (Ok tt)
     back-owed = rw (is, still)
 
     -- the log is then the one at naming
@@ -99,14 +100,14 @@ module _ (lent : ℕ) where
       by false false = refl
 
   -- a naming with 2 or 6 alone
-  name-refusal : (b c : Bool) → mem (refusal_of (moment (cond b (cond c Done (Refused 6)) (Refused 2)))) owed_refusals ≡ true
+  name-refusal : (b c : Bool) → mem (refusal_of (moment (cond b (cond c (Ok tt) (Err NoRoom)) (Err OutOfRange)))) owed_refusals ≡ true
   unfolding mem
   name-refusal true true = refl
   name-refusal true false = refl
   name-refusal false c = refl
 
   -- a return with 2 or 11 alone
-  return-refusal : (b : Bool) (o : Moment) → mem (refusal_of (moment (cond b (moment_owed o) (Refused 2)))) owed_refusals ≡ true
+  return-refusal : (b : Bool) (o : Moment) → mem (refusal_of (moment (cond b (moment_owed o) (Err OutOfRange)))) owed_refusals ≡ true
   unfolding mem
   return-refusal true none = refl
   return-refusal true (log t) = refl
@@ -138,12 +139,12 @@ module _ (lent : ℕ) where
         by false false = refl
 
     -- no naming
-    name-not-six : (k : ℕ) (b : Bool) → is_name k ≡ b → eqb 6 (refusal_of (moment (cond b (cond (lies lent k) Done (Refused 6)) (Refused 2)))) ≡ false
+    name-not-six : (k : ℕ) (b : Bool) → is_name k ≡ b → eqb 6 (refusal_of (moment (cond b (cond (lies lent k) (Ok tt) (Err NoRoom)) (Err OutOfRange)))) ≡ false
     name-not-six k true e = rw (names-lie lent room k e)
     name-not-six k false e = refl
 
     -- no return
-    return-not-six : (b : Bool) (o : Moment) → eqb 6 (refusal_of (moment (cond b (moment_owed o) (Refused 2)))) ≡ false
+    return-not-six : (b : Bool) (o : Moment) → eqb 6 (refusal_of (moment (cond b (moment_owed o) (Err OutOfRange)))) ≡ false
     return-not-six true none = refl
     return-not-six true (log t) = refl
     return-not-six false o = refl

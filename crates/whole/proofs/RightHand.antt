@@ -1,4 +1,8 @@
 -- The new session and the old one: each sound old session has one new one, and all calls of the two agree.
+use Rattle.summary_calls.specs.declared.HitShare.{HitShare}
+use Rattle.std.specs.Prelude.{Result, Ok, Err}
+use Rattle.reuse.specs.declared.refusals.Refusal.{Refusal}
+use Rattle.reuse.specs.declared.refusals.Refusal.TheVariants.{Unsound}
 use Prim.Native.Nat.{ℕ}
 use mathlib.Core.Path.{◌≡◌, refl, sym, ap, ◌∙◌}
 use mathlib.Core.Logic.{◌↔◌, ◌≢◌}
@@ -9,17 +13,11 @@ use lib.Dec.{eqb, leb}
 use lib.ListN.{length}
 use Rattle.reuse.specs.Lru.{Reuse, cold, at, depth}
 use Rattle.reuse.specs.Limits.{max_reads, levels}
-use Rattle.summary_calls.specs.declared.Written.{Written}
-use Rattle.summary_calls.specs.declared.Written.TheVariants.{Words, Refused as NotWritten}
-use Rattle.summary_calls.specs.declared.MissCount.{MissCount}
-use Rattle.summary_calls.specs.declared.MissCount.TheVariants.{Misses, Refused as NoMisses}
-use Rattle.summary_calls.specs.declared.ShareAnswer.{ShareAnswer}
-use Rattle.summary_calls.specs.declared.ShareAnswer.TheVariants.{Answered, Refused as NoShare}
 use Rattle.summary_calls.specs.Calls.{wrote, share_at}
 use Rattle.reuse.specs.Summary.{misses_of}
 use Rattle.session_rights.specs.Rights.{marks_from, zero_one, Gives}
 use Rattle.session_calls.specs.declared.Answer.{Answer}
-use Rattle.session_calls.specs.declared.Answer.TheVariants.{Cold, Distance, Refused}
+use Rattle.session_calls.specs.declared.Answer.TheVariants.{Cold, Distance}
 use Rattle.session_calls.specs.Sessions as full
 use Rattle.session_calls.specs.Sessions.{FullSession}
 use Rattle.session_calls.specs.Reads as full-reads
@@ -119,24 +117,24 @@ corresponds o h =
     }
 
 -- the number of a read's refusal, 0 where it is none
-abbrev read_number : Answer → ℕ
-read_number (Cold n k) = 0
-read_number (Distance d n k) = 0
-read_number (Refused n) = n
+abbrev read_number : Result Answer Refusal → ℕ
+read_number (Ok (Cold n k)) = 0
+read_number (Ok (Distance d n k)) = 0
+read_number (Err n) = n
 
 -- of a call that writes words
-abbrev words_number : Written → ℕ
-words_number (Words n) = 0
-words_number (NotWritten n) = n
+abbrev words_number : Result ℕ Refusal → ℕ
+words_number (Ok n) = 0
+words_number (Err n) = n
 
 -- of misses and of a share
-abbrev misses_number : MissCount → ℕ
-misses_number (Misses n) = 0
-misses_number (NoMisses n) = n
+abbrev misses_number : Result ℕ Refusal → ℕ
+misses_number (Ok n) = 0
+misses_number (Err n) = n
 
-abbrev share_number : ShareAnswer → ℕ
-share_number (Answered s) = 0
-share_number (NoShare n) = n
+abbrev share_number : Result HitShare Refusal → ℕ
+share_number (Ok s) = 0
+share_number (Err n) = n
 
 -- an accepted read is not refused
 step-number : (o : FullSession) (x : ℕ) (r : Reuse) → read_number (full-reads.step_at o x r).answer ≡ 0
@@ -203,19 +201,19 @@ module _ (s : Session) (w : Wide s) where
   tested = record {
     exactly = (to-old, from_old);
     seven-read = λ x.
-        seven (read_of s x).answer (full-reads.read_of (old_of s) x).answer (Refused 7)
+        seven (read_of s x).answer (full-reads.read_of (old_of s) x).answer (Err Unsound)
         (λ ok. unfold read_of in rw ok) (λ bad. unfold read_of in rw bad)
         (λ ok e. read_number_lem (old_of s) (ok-old ok) x (ap read_number e));
     seven-summary = λ buffer.
-        seven (summary_call s buffer).answer (wrote (full-calls.session_words (old_of s)) buffer).answer (NotWritten 7)
+        seven (summary_call s buffer).answer (wrote (full-calls.session_words (old_of s)) buffer).answer (Err Unsound)
         (λ ok. unfold summary_call full-calls.summary_call in rw (ok, ok-old ok)) (λ bad. unfold summary_call in rw bad)
         (λ ok e. wrote-number (full-calls.session_words (old_of s)) buffer (ap words_number e));
     seven-misses = λ c.
-        seven (misses_call s c) (Misses (misses_of (full-calls.session_words (old_of s)) c)) (NoMisses 7)
+        seven (misses_call s c) (Ok (misses_of (full-calls.session_words (old_of s)) c)) (Err Unsound)
         (λ ok. unfold misses_call full-calls.misses_call in rw (ok, ok-old ok)) (λ bad. unfold misses_call in rw bad)
         (λ ok e. let q : ◌≡◌ {A = ℕ} 0 7 = ap misses_number e in omega arith);
     seven-share = λ c.
-        seven (share_call s c) (Answered (share_at (full-calls.session_words (old_of s)) c)) (NoShare 7)
+        seven (share_call s c) (Ok (share_at (full-calls.session_words (old_of s)) c)) (Err Unsound)
         (λ ok. unfold share_call full-calls.share_call in rw (ok, ok-old ok)) (λ bad. unfold share_call in rw bad)
         (λ ok e. let q : ◌≡◌ {A = ℕ} 0 7 = ap share_number e in omega arith);
     rightly-exactly = rightly-exactly levels s.count s.rights (omega (arith, w.rights-wide));

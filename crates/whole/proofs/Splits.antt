@@ -1,4 +1,5 @@
 -- The split of a store among logs: the caches' misses, and none better.
+use Rattle.std.specs.Prelude.{Ok}
 use Prim.Native.Nat.{ℕ, zero, suc, ◌≤◌}
 use native.Mathlib.Omega.{arith}
 use mathlib.Core.Path.{◌≡◌, refl, sym, ap, ◌∙◌}
@@ -12,7 +13,6 @@ use Rattle.reuse.specs.Traces.{Within}
 use Rattle.reuse.proofs.Lists.{clash}
 use Rattle.reuse.proofs.Words.{extents-summary}
 use Rattle.reuse.proofs.Formed.{summary-well-formed}
-use Rattle.split_calls.specs.declared.SplitAnswer.TheVariants.{Misses}
 use Rattle.split_calls.specs.Split.{Best, split_of, rank}
 use Rattle.split_calls.specs.Cuts.{cut_summaries}
 use Rattle.split_calls.specs.Calls.{all_formed, divided}
@@ -64,7 +64,7 @@ module _ (logs : List (List ℕ)) (store : ℕ) (leasts buffer : List ℕ) (c : 
         answered =
             call-split store leasts (flatten summaries) buffer c.small (customers-fit (length leasts) c.some c.few) all-well h k
             ∙ ap (λ (ss : List (List ℕ)). divided ss leasts store buffer) cut_again
-            ∙ ap (λ (n : ℕ). record { answer = Misses n; shares = shares ++ drop (length leasts) buffer }) (split-caches logs shares);
+            ∙ ap (λ (n : ℕ). record { answer = Ok n; shares = shares ++ drop (length leasts) buffer }) (split-caches logs shares);
         allowed = b.allowed;
         needed = λ i. rw (← extents-at logs i) (split-small summaries leasts store h i);
         best = λ others a.

@@ -1,4 +1,5 @@
 -- The rows that 01 marks with a star, proved together: by computation, and what groupings hand over by the claim.
+use Rattle.std.specs.Prelude.{Ok}
 use Prim.Native.Nat.{ℕ, ◌+◌}
 use mathlib.Core.Path.{◌≡◌, refl, sym, ap, ◌∙◌}
 use native.Mathlib.Omega.{arith}
@@ -19,7 +20,6 @@ use Rattle.reuse.proofs.Stack.{stack-law}
 use Rattle.reuse.proofs.Words.{reads-summary, first-summary, recent-summary}
 use Rattle.summary_calls.specs.declared.HitShare.{HitShare}
 use Rattle.summary_calls.specs.declared.HitShare.TheVariants.{Share, NoReads}
-use Rattle.summary_calls.specs.declared.ShareAnswer.TheVariants.{Answered}
 use Rattle.summary_calls.specs.Calls.{wrote, join_call, misses_call, share_of, share_call}
 use Rattle.reuse_rows.specs.Rows.{blank}
 use Rattle.after.specs.Calls.{after_call}
@@ -76,7 +76,7 @@ short-log : (t : List ℕ) → leb (length t) max_reads ≡ true → leb (length
 short-log t a b = record { reads = leb-true (length t) max_reads a; extents = leb-true (length (firsts t)) max_extents b }
 
 -- the share of a log's words is the log's, and so are those of the session and the watch
-same-shares : (c : ℕ) (t : List ℕ) (s : HitShare) → Within t → share_call (summary_of t) c ≡ Answered s → cache_share c t ≡ Answered s → HitSharesAre c t s
+same-shares : (c : ℕ) (t : List ℕ) (s : HitShare) → Within t → share_call (summary_of t) c ≡ Ok s → cache_share c t ≡ Ok s → HitSharesAre c t s
 same-shares c t s w e f =
     record { of_words = e; of-session = (counts c t w).session-share ∙ f; of-watch = (counts c t w).watch-share ∙ f }
 
@@ -111,7 +111,7 @@ room-for-one = names-lie names_length (omega arith) 1 refl
 
 -- the seven reads: what the session with all sums answers, and the slots that it looks at
 seven-full : (full_answers full.fresh seven
-    ≡ Cold 1 0 ∷ Cold 2 1 ∷ Distance 2 11 2 ∷ Cold 3 3 ∷ Distance 3 10 3 ∷ Distance 1 10 1 ∷ Distance 2 9 3 ∷ [])
+    ≡ Ok (Cold 1 0) ∷ Ok (Cold 2 1) ∷ Ok (Distance 2 11 2) ∷ Ok (Cold 3 3) ∷ Ok (Distance 3 10 3) ∷ Ok (Distance 1 10 1) ∷ Ok (Distance 2 9 3) ∷ [])
     × (full_looked full.fresh seven
     ≡ [] ∷ (0 ∷ []) ∷ (1 ∷ 0 ∷ []) ∷ (2 ∷ 1 ∷ 0 ∷ []) ∷ (3 ∷ 2 ∷ 1 ∷ []) ∷ (4 ∷ []) ∷ (5 ∷ 4 ∷ 3 ∷ []) ∷ [])
 unfolding full_answers full_looked looked_at looked_of read_of full.sound sound_rows full.extents same blank full.marks sums_of pairs tidy full.stack_of full.first_row marked all_in distinct mem roomed gathered slot_of slot_from taken too_many depth moved entered zeros sum
@@ -119,7 +119,7 @@ seven-full = (refl, refl)
 
 -- so the session does
 seven_run : (answers_of fresh seven
-    ≡ Cold 1 0 ∷ Cold 2 1 ∷ Distance 2 11 2 ∷ Cold 3 3 ∷ Distance 3 10 3 ∷ Distance 1 10 1 ∷ Distance 2 9 3 ∷ [])
+    ≡ Ok (Cold 1 0) ∷ Ok (Cold 2 1) ∷ Ok (Distance 2 11 2) ∷ Ok (Cold 3 3) ∷ Ok (Distance 3 10 3) ∷ Ok (Distance 1 10 1) ∷ Ok (Distance 2 9 3) ∷ [])
     × (looked_along fresh seven
     ≡ [] ∷ (0 ∷ []) ∷ (1 ∷ 0 ∷ []) ∷ (2 ∷ 1 ∷ 0 ∷ []) ∷ (3 ∷ 2 ∷ 1 ∷ []) ∷ (4 ∷ []) ∷ (5 ∷ 4 ∷ 3 ∷ []) ∷ [])
 seven_run =

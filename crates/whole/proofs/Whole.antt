@@ -1,4 +1,6 @@
 -- The claim about whole runs, proved.
+use Rattle.std.specs.Prelude.{Result, Ok, Err}
+use Rattle.reuse.specs.declared.refusals.Refusal.{Refusal}
 use Prim.Native.Nat.{ℕ}
 use mathlib.Core.Path.{◌≡◌, refl, sym, ap, ◌∙◌}
 use mathlib.Core.List.{List, [], ◌∷◌, map, map-map}
@@ -12,7 +14,7 @@ use Rattle.reuse.proofs.Newcomers.{trace-numbers}
 use Rattle.reuse.proofs.Prefixes.{prefix-newcomer, prefix-numbers}
 use Rattle.reuse.proofs.Traces.{within-front}
 use Rattle.session_calls.specs.declared.Answer.{Answer}
-use Rattle.session_calls.specs.declared.Answer.TheVariants.{Cold, Distance, Refused}
+use Rattle.session_calls.specs.declared.Answer.TheVariants.{Cold, Distance}
 use Rattle.session.specs.Sessions.{fresh}
 use Rattle.session_traces.proofs.Stands.{fresh-stands}
 use Rattle.session_traces.proofs.Read.{walks}
@@ -50,13 +52,13 @@ held size (gives r) = within size r
 held size (refused n) = false
 
 -- what was seen of an answer tells whether the cache holds the extent
-held-seen : (size : ℕ) (a : Answer) → held size (seen_of a) ≡ held_by size a
-held-seen size (Cold n k) = refl
-held-seen size (Distance d n k) = refl
-held-seen size (Refused n) = refl
+held-seen : (size : ℕ) (a : Result Answer Refusal) → held size (seen_of a) ≡ held_by size a
+held-seen size (Ok (Cold n k)) = refl
+held-seen size (Ok (Distance d n k)) = refl
+held-seen size (Err n) = refl
 
 -- so of a list of answers
-held-answers : (size : ℕ) (l : List Answer) → map (held size) (map seen_of l) ≡ map (held_by size) l
+held-answers : (size : ℕ) (l : List (Result Result Answer Refusal Refusal)) → map (held size) (map seen_of l) ≡ map (held_by size) l
 held-answers size [] = refl
 held-answers size (a ∷ l) = rw (held-answers size l, held-seen size a)
 

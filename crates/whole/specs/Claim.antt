@@ -1,5 +1,6 @@
 -- The claim about whole runs: 01, 'Demand 3 in full', and what the requests of 02 add to it.
-use Rattle.std.specs.Prelude.{ℕ, ◌≤◌, ◌≡◌, List, [], ◌∷◌, ◌++◌, map, Bool, true, false, cond, ◌&&◌, leb, length}
+use Rattle.std.specs.Prelude.{ℕ, ◌≤◌, ◌≡◌, List, [], ◌∷◌, ◌++◌, map, Bool, true, false, cond, ◌&&◌, leb, length, Result, Ok, Err}
+use Rattle.reuse.specs.declared.refusals.Refusal.{Refusal}
 use Rattle.reuse.specs.Lists.{firsts, from}
 use Rattle.reuse.specs.Lru.{cold, at, reuses, newcomers, within}
 use Rattle.reuse.specs.Cache.{cache_hits}
@@ -7,7 +8,7 @@ use Rattle.reuse.specs.Summary.{summary_of, extents_of, well_formed}
 use Rattle.reuse.specs.Traces.{Within}
 use Rattle.session.specs.declared.Session.{Session}
 use Rattle.session_calls.specs.declared.Answer.{Answer}
-use Rattle.session_calls.specs.declared.Answer.TheVariants.{Cold, Distance, Refused}
+use Rattle.session_calls.specs.declared.Answer.TheVariants.{Cold, Distance}
 use Rattle.session.specs.Sessions.{fresh}
 use Rattle.session_calls.specs.Reads.{slots_looked}
 use Rattle.session_traces.specs.Walks.{Walks}
@@ -46,10 +47,10 @@ use Rattle.whole.specs.RightHand.{RightHand}
 use Rattle.whole.specs.Cuttings.{Cutting, cut_parts, Follows, cut_distances, cut_roomy}
 
 -- an answer that is a distance of at most c
-abbrev pub held_by : ℕ → Answer → Bool
-held_by c (Cold n k) = within c (cold n)
-held_by c (Distance d n k) = within c (at d)
-held_by c (Refused n) = false
+abbrev pub held_by : ℕ → Result Answer Refusal → Bool
+held_by c (Ok (Cold n k)) = within c (cold n)
+held_by c (Ok (Distance d n k)) = within c (at d)
+held_by c (Err n) = false
 
 -- what holds of every run over the log t
 pub record Claims (t : List ℕ) : Type 0 where

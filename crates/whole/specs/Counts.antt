@@ -1,42 +1,39 @@
 -- Misses and hit shares of a log: of its summary's words, of the session that read it, and of a watch fed with its answers.
-use Rattle.std.specs.Prelude.{ℕ, ◌≤◌, ◌≡◌, List, [], ◌∷◌, map, length}
+use Rattle.watch.specs.declared.Reading.{Reading}
+use Rattle.summary_calls.specs.declared.HitShare.{HitShare}
+use Rattle.std.specs.Prelude.{ℕ, ◌≤◌, ◌≡◌, List, [], ◌∷◌, map, length, Result, Ok, Err}
+use Rattle.reuse.specs.declared.refusals.Refusal.{Refusal}
 use Rattle.reuse.specs.Lists.{firsts}
 use Rattle.reuse.specs.Cache.{cache_misses, hit_count, servable}
 use Rattle.reuse.specs.Summary.{summary_of}
 use Rattle.reuse_rows.specs.Rows.{put_at}
-use Rattle.summary_calls.specs.declared.MissCount.{MissCount}
-use Rattle.summary_calls.specs.declared.MissCount.TheVariants.{Misses}
-use Rattle.summary_calls.specs.declared.ShareAnswer.{ShareAnswer}
-use Rattle.summary_calls.specs.declared.ShareAnswer.TheVariants.{Answered}
 use Rattle.summary_calls.specs.Calls.{misses_call, share_of, share_call}
 use Rattle.session_calls.specs.declared.Answer.{Answer}
 use Rattle.session.specs.Sessions.{fresh}
 use Rattle.session_summary.specs.Summaries.{misses_call as session_misses, share_call as session_share}
 use Rattle.watch.specs.declared.Watch.{Watch}
-use Rattle.watch.specs.declared.Heard.{Heard}
-use Rattle.watch.specs.declared.Heard.TheVariants.{Read, Refused}
 use Rattle.watch.specs.Watching.{new_of, noted_of, heard_of, misses_call as watch_misses, share_call as watch_share}
 use Rattle.watch_words.specs.Layout.{watch_length, watch_laid}
 use Rattle.watch_words.specs.Calls.{new_watch, words_after}
 use Rattle.whole.specs.Runs.{session_after, answers_of, written}
 
 -- a watch after what it hears of a session: a refusal is no reading
-abbrev pub hears : Watch → Heard → Watch
-hears w (Read r) = (noted_of w r).watch
-hears w (Refused n) = w
+abbrev pub hears : Watch → Result Reading Refusal → Watch
+hears w (Ok r) = (noted_of w r).watch
+hears w (Err n) = w
 
 -- a watch after a list of a session's answers, each given to the watch that the last update left
-unfoldable pub watching : Watch → List Answer → Watch
+unfoldable pub watching : Watch → List (Result Result Answer Refusal Refusal) → Watch
 watching w [] = w
 watching w (a ∷ l) = watching (hears w (heard_of a)) l
 
 -- the misses of the cache of size c that reads the log
-abbrev pub cache_missed : ℕ → List ℕ → MissCount
-cache_missed c t = Misses (cache_misses c t)
+abbrev pub cache_missed : ℕ → List ℕ → Result ℕ Refusal
+cache_missed c t = Ok (cache_misses c t)
 
 -- its hits by the reads that some size could have served
-abbrev pub cache_share : ℕ → List ℕ → ShareAnswer
-cache_share c t = Answered (share_of (hit_count c t) (servable t))
+abbrev pub cache_share : ℕ → List ℕ → Result HitShare Refusal
+cache_share c t = Ok (share_of (hit_count c t) (servable t))
 
 -- at size c the summary's words, the session and the watch tell the misses of that cache, and its hits by the reads that
 -- some size could have served

@@ -1,10 +1,9 @@
 -- Hit shares: what the divisor counts, and what a share may be, of a log and of any words, session or watch handed in.
-use Rattle.std.specs.Prelude.{ℕ, ◌≤◌, ◌≡◌, List, true, false, length}
+use Rattle.std.specs.Prelude.{ℕ, ◌≤◌, ◌≡◌, List, true, false, length, Ok}
 use Rattle.reuse.specs.Lists.{mem, firsts, distinct}
 use Rattle.reuse.specs.Cache.{cache_after, hit_count, servable}
 use Rattle.reuse.specs.Summary.{extents_of, well_formed, servable_of}
 use Rattle.summary_calls.specs.declared.HitShare.TheVariants.{Share, NoReads}
-use Rattle.summary_calls.specs.declared.ShareAnswer.TheVariants.{Answered}
 use Rattle.summary_calls.specs.Calls.{share_call}
 use Rattle.summary_calls.specs.HitShares.{one, NoneOf, Between, Full}
 use Rattle.session.specs.Sessions.{Wide, extents, sound}
@@ -28,13 +27,13 @@ pub record HitShares (c : ℕ) (t : List ℕ) : Type 0 where
   -- one with room for all extents has as many
   pub all : length (firsts t) ≤ c → hit_count c t ≡ servable t
   -- 'no reads' exactly if the log reads no extent twice
-  pub none : (distinct t ≡ true → cache_share c t ≡ Answered NoReads) × (cache_share c t ≡ Answered NoReads → distinct t ≡ true)
+  pub none : (distinct t ≡ true → cache_share c t ≡ Ok NoReads) × (cache_share c t ≡ Ok NoReads → distinct t ≡ true)
   -- else a number between 0 and 1
   pub between : Between (cache_share c t)
   -- exactly 1 at a size of at least v
   pub full : length (firsts t) ≤ c → Full (cache_share c t)
   -- and at any size exactly if each read that is not cold is a hit
-  pub full-exactly : (hit_count c t ≡ servable t → Full (cache_share c t)) × (cache_share c t ≡ Answered (Share one) → hit_count c t ≡ servable t)
+  pub full-exactly : (hit_count c t ≡ servable t → Full (cache_share c t)) × (cache_share c t ≡ Ok (Share one) → hit_count c t ≡ servable t)
 
 -- the shares of any words, session and watch handed in, whether or not a log has them; a session's rows have the lengths of
 -- its arrays (`Wide`)

@@ -1,10 +1,10 @@
 -- Runs of calls: reads, namings and returns in any order from a new session, with words lent for the names.
-use Rattle.std.specs.Prelude.{ℕ, ◌≡◌, List, [], ◌∷◌, false}
+use Rattle.std.specs.Prelude.{ℕ, ◌≡◌, List, [], ◌∷◌, false, Result}
+use Rattle.reuse.specs.declared.refusals.Refusal.{Refusal}
 use Rattle.session.specs.declared.Session.{Session}
 use Rattle.session_calls.specs.declared.Answer.{Answer}
 use Rattle.session.specs.Sessions.{fresh}
 use Rattle.session.specs.Reads.{read_of}
-use Rattle.moments.specs.declared.MomentAnswer.{MomentAnswer}
 use Rattle.moments.specs.Names.{is_set, name_call, return_call}
 use Rattle.moments.specs.Refusals.{moment_refusal}
 use Rattle.whole.specs.Runs.{gives, refused}
@@ -19,10 +19,10 @@ pub data Call : Type 0 where
 -- what a call answers: a read's answer, or that of a naming or a return
 pub data Told (A : Type 0) : Type 0 where
   reading : A → Told A
-  moment : MomentAnswer → Told A
+  moment : Result Unit Refusal → Told A
 
 -- a read's answer without its counts of sums and slots
-abbrev pub heard : Told Answer → Told Seen
+abbrev pub heard : Told Result Answer Refusal → Told Seen
 heard (reading a) = reading (seen_of a)
 heard (moment a) = moment a
 
@@ -38,7 +38,7 @@ pub record State : Type 0 where
   pub names : List ℕ
 
 -- what a call answers
-abbrev pub told : State → Call → Told Answer
+abbrev pub told : State → Call → Told Result Answer Refusal
 told s (read x) = reading (read_of s.session x).answer
 told s (name k) = moment (name_call s.session s.names k).answer
 told s (return_to k) = moment (return_call s.session s.names k).answer
@@ -55,7 +55,7 @@ state_after s [] = s
 state_after s (c ∷ cs) = state_after (left s c) cs
 
 -- what these calls answer
-unfoldable pub told_by : State → List Call → List (Told Answer)
+unfoldable pub told_by : State → List Call → List (Told Result Answer Refusal)
 told_by s [] = []
 told_by s (c ∷ cs) = told s c ∷ told_by (left s c) cs
 

@@ -1,10 +1,9 @@
 -- Named moments: what holds of every list of calls from a new session with no name set (02, ask 5).
-use Rattle.std.specs.Prelude.{ℕ, ◌≤◌, ◌≡◌, List, ◌∷◌, ◌++◌, map, true, false, length}
+use Rattle.std.specs.Prelude.{ℕ, ◌≤◌, ◌≡◌, List, ◌∷◌, ◌++◌, map, true, false, length, Ok}
 use Rattle.reuse.specs.Lists.{mem, all_in}
 use Rattle.reuse.specs.Traces.{Within}
 use Rattle.session.specs.Sessions.{fresh}
 use Rattle.session.specs.Reads.{read_of}
-use Rattle.moments.specs.declared.MomentAnswer.TheVariants.{Done}
 use Rattle.moments.specs.Names.{names_length, is_set, session_under}
 use Rattle.whole.specs.Runs.{session_after, answers_of, accepted}
 use Rattle.whole.specs.Owed.{owed}
@@ -46,7 +45,7 @@ coming_back before k between reads = (before ++ (name k ∷ between)) ++ (return
 pub record ComesBack (names : List ℕ) (before : List Call) (k : ℕ) (between : List Call) (reads : List ℕ) : Type 0 where
   -- the return is done, and the reads answer what they do after the log as it stood at naming
   pub answers : map heard (told_by (begun names) (coming_back before k between reads))
-      ≡ map heard (told_by (begun names) (before ++ (name k ∷ between))) ++ (moment Done ∷ map reading (owed (remembered (length names) before) reads))
+      ≡ map heard (told_by (begun names) (before ++ (name k ∷ between))) ++ (moment (Ok tt) ∷ map reading (owed (remembered (length names) before) reads))
   -- the log is that one, and then the reads accepted
   pub log-now : remembered (length names) (coming_back before k between reads) ≡ remembered (length names) (before ++ map read reads)
   -- no name is forgotten

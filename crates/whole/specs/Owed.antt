@@ -1,10 +1,11 @@
 -- What read calls must answer, said of the log alone.
-use Rattle.std.specs.Prelude.{ℕ, List, [], ◌∷◌, ◌++◌, cond, ltb, length}
+use Rattle.std.specs.Prelude.{ℕ, List, [], ◌∷◌, ◌++◌, cond, ltb, length, Result, Ok, Err}
+use Rattle.reuse.specs.declared.refusals.Refusal.{Refusal}
 use Rattle.reuse.specs.Limits.{max_reads, max_extents}
 use Rattle.reuse.specs.Lists.{firsts}
 use Rattle.reuse.specs.Lru.{Reuse, cold, at, distance}
 use Rattle.session_calls.specs.declared.Answer.{Answer}
-use Rattle.session_calls.specs.declared.Answer.TheVariants.{Cold, Distance, Refused}
+use Rattle.session_calls.specs.declared.Answer.TheVariants.{Cold, Distance}
 use Rattle.whole.specs.Runs.{Reply, gives, refused}
 
 -- a read's answer without its counts of sums and slots: cold with its number, a distance, or its refusal
@@ -12,10 +13,10 @@ abbrev pub Seen : Type 0
 Seen = Reply Reuse
 
 -- of an answer
-abbrev pub seen_of : Answer → Seen
-seen_of (Cold n k) = gives (cold n)
-seen_of (Distance d n k) = gives (at d)
-seen_of (Refused n) = refused n
+abbrev pub seen_of : Result Answer Refusal → Seen
+seen_of (Ok (Cold n k)) = gives (cold n)
+seen_of (Ok (Distance d n k)) = gives (at d)
+seen_of (Err n) = refused n
 
 -- what a read of x must answer, t being the reads accepted before: 8 where more reads than the limit would result, else 9
 -- where more extents would, else the distance or the newcomer's number counted on the log

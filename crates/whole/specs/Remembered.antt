@@ -1,7 +1,7 @@
 -- What is remembered, said of logs alone: the log now and the log under each name, and what each call must answer.
-use Rattle.std.specs.Prelude.{ℕ, List, [], ◌∷◌, Bool, true, cond, not, ◌&&◌, eqb}
-use Rattle.moments.specs.declared.MomentAnswer.{MomentAnswer}
-use Rattle.moments.specs.declared.MomentAnswer.TheVariants.{Done, Refused}
+use Rattle.std.specs.Prelude.{ℕ, List, [], ◌∷◌, Bool, true, cond, not, ◌&&◌, eqb, Result, Ok, Err}
+use Rattle.reuse.specs.declared.refusals.Refusal.{Refusal}
+use Rattle.reuse.specs.declared.refusals.Refusal.TheVariants.{OutOfRange, NoRoom, NameNotSet}
 use Rattle.moments.specs.Names.{is_name, lies}
 use Rattle.whole.specs.Owed.{Seen, read_owed, grown}
 use Rattle.whole.specs.Moments.{Call, read, name, return_to, Told, reading, moment}
@@ -21,18 +21,18 @@ abbrev pub nothing : Memory
 nothing = record { now = []; under = λ k. none }
 
 -- what a naming of k must answer, with so many words lent: 2 for a number that is no name, 6 for a place past the words
-abbrev pub name_owed : ℕ → ℕ → MomentAnswer
-name_owed lent k = cond (is_name k) (cond (lies lent k) Done (Refused 6)) (Refused 2)
+abbrev pub name_owed : ℕ → ℕ → Result Unit Refusal
+name_owed lent k = cond (is_name k) (cond (lies lent k) (Ok tt) (Err NoRoom)) (Err OutOfRange)
 
 -- what the names remember after it: k the log now; a refused naming leaves what they do
-abbrev pub noted : MomentAnswer → Memory → ℕ → (ℕ → Moment)
-noted Done m k = λ j. cond (eqb j k) (log m.now) (m.under j)
-noted (Refused n) m k = m.under
+abbrev pub noted : Result Unit Refusal → Memory → ℕ → (ℕ → Moment)
+noted (Ok tt) m k = λ j. cond (eqb j k) (log m.now) (m.under j)
+noted (Err n) m k = m.under
 
 -- what a return to this must answer: 11 where nothing is remembered
-abbrev pub moment_owed : Moment → MomentAnswer
-moment_owed none = Refused 11
-moment_owed (log t) = Done
+abbrev pub moment_owed : Moment → Result Unit Refusal
+moment_owed none = Err NameNotSet
+moment_owed (log t) = Ok tt
 
 -- the log after it: the one that is remembered; a refused return leaves the log
 abbrev pub brought_back : Moment → List ℕ → List ℕ
@@ -43,7 +43,7 @@ brought_back (log u) t = u
 abbrev pub owed_for : ℕ → Memory → Call → Told Seen
 owed_for lent m (read x) = reading (read_owed m.now x)
 owed_for lent m (name k) = moment (name_owed lent k)
-owed_for lent m (return_to k) = moment (cond (is_name k) (moment_owed (m.under k)) (Refused 2))
+owed_for lent m (return_to k) = moment (cond (is_name k) (moment_owed (m.under k)) (Err OutOfRange))
 
 -- what is remembered after it: an accepted read goes to the end of the log, a naming copies the log, a return brings the
 -- copy back, a refused call changes nothing

@@ -1,12 +1,10 @@
 -- The session that keeps right-hand sums alone and the one with all sums (02, 'Keep right-hand sums alone'): the new and the old.
-use Rattle.std.specs.Prelude.{ℕ, ◌≡◌, ◌↔◌, ◌≢◌, true, List, [], ◌∷◌, length}
+use Rattle.std.specs.Prelude.{ℕ, ◌≡◌, ◌↔◌, ◌≢◌, true, List, [], ◌∷◌, length, Result, Ok, Err}
+use Rattle.reuse.specs.declared.refusals.Refusal.{Refusal}
+use Rattle.reuse.specs.declared.refusals.Refusal.TheVariants.{Unsound}
 use Rattle.reuse.specs.Limits.{levels}
-use Rattle.summary_calls.specs.declared.Written.TheVariants.{Refused as NotWritten}
-use Rattle.summary_calls.specs.declared.MissCount.TheVariants.{Refused as NoMisses}
-use Rattle.summary_calls.specs.declared.ShareAnswer.TheVariants.{Refused as NoShare}
 use Rattle.session_rights.specs.Rights.{zero_one, rightly, Gives}
 use Rattle.session_calls.specs.declared.Answer.{Answer}
-use Rattle.session_calls.specs.declared.Answer.TheVariants.{Refused}
 use Rattle.session_calls.specs.Sessions as full
 use Rattle.session_calls.specs.Sessions.{FullSession, FullWide}
 use Rattle.session_calls.specs.Reads as full-reads
@@ -15,7 +13,6 @@ use Rattle.session.specs.declared.Session.{Session}
 use Rattle.session.specs.Sessions.{Wide, new_of, fresh, sound}
 use Rattle.session.specs.Reads.{new_step, read_of}
 use Rattle.session_summary.specs.Summaries.{summary_call, misses_call, share_call}
-use Rattle.moments.specs.declared.MomentAnswer.TheVariants.{Done}
 use Rattle.moments.specs.Names.{is_name, lies, is_set, session_under, name_call, return_call}
 use Rattle.whole.specs.Runs.{session_after, answers_of}
 use Rattle.whole.specs.Looks.{looked_along}
@@ -40,7 +37,7 @@ full_after o [] = o
 full_after o (x ∷ xs) = full_after (full-reads.read_of o x).session xs
 
 -- what it answers to them
-unfoldable pub full_answers : FullSession → List ℕ → List Answer
+unfoldable pub full_answers : FullSession → List ℕ → List (Result Result Answer Refusal Refusal)
 full_answers o [] = []
 full_answers o (x ∷ xs) = (full-reads.read_of o x).answer ∷ full_answers (full-reads.read_of o x).session xs
 
@@ -51,7 +48,7 @@ full_looked o (x ∷ xs) = full-reads.looked_at (full-reads.roomed o) x ∷ full
 
 -- a naming of the session s under k, in words with room for its place: it stands under k, and each other name has what it had
 pub record StandsUnder (s : Session) (names : List ℕ) (k : ℕ) : Type 0 where
-  pub done : (name_call s names k).answer ≡ Done
+  pub done : (name_call s names k).answer ≡ Ok tt
   pub is-set : is_set (name_call s names k).names k ≡ true
   pub same : session_under (name_call s names k).names k ≡ s
   pub others-set : (j : ℕ) → j ≢ k → is_set (name_call s names k).names j ≡ is_set names j
@@ -78,17 +75,17 @@ pub record Corresponds (o : FullSession) : Type 0 where
   -- named, the session that corresponds stands under the name; a return brings it back, whatever the present session is
   pub named : (names : List ℕ) (k : ℕ) → is_name k ≡ true → lies (length names) k ≡ true → StandsUnder (new_of o) names k
   pub returned : (s : Session) (names : List ℕ) (k : ℕ) → is_name k ≡ true → is_set names k ≡ true → session_under names k ≡ new_of o
-      → return_call s names k ≡ record { session = new_of o; answer = Done }
+      → return_call s names k ≡ record { session = new_of o; answer = Ok tt }
 
 -- what holds of every session
 pub record Tested (s : Session) : Type 0 where
   -- it is sound exactly if it corresponds to some sound old session
   pub exactly : sound s ≡ true ↔ HasOld s
   -- a read is refused with 7 exactly if it corresponds to none, and so are summary, misses and share
-  pub seven-read : (x : ℕ) → (read_of s x).answer ≡ Refused 7 ↔ (HasOld s → ⊥)
-  pub seven-summary : (buffer : List ℕ) → (summary_call s buffer).answer ≡ NotWritten 7 ↔ (HasOld s → ⊥)
-  pub seven-misses : (c : ℕ) → misses_call s c ≡ NoMisses 7 ↔ (HasOld s → ⊥)
-  pub seven-share : (c : ℕ) → share_call s c ≡ NoShare 7 ↔ (HasOld s → ⊥)
+  pub seven-read : (x : ℕ) → (read_of s x).answer ≡ Err Unsound ↔ (HasOld s → ⊥)
+  pub seven-summary : (buffer : List ℕ) → (summary_call s buffer).answer ≡ Err Unsound ↔ (HasOld s → ⊥)
+  pub seven-misses : (c : ℕ) → misses_call s c ≡ Err Unsound ↔ (HasOld s → ⊥)
+  pub seven-share : (c : ℕ) → share_call s c ≡ Err Unsound ↔ (HasOld s → ⊥)
   -- the test of its count and its right-hand sums is true exactly if some marks, each 0 or 1, give them
   pub rightly-exactly : rightly levels s.count s.rights ≡ true ↔ ((marks : List ℕ) × Gives levels s.count s.rights marks × (zero_one marks ≡ true))
   -- it corresponds to none where no such marks give them

@@ -1,15 +1,14 @@
 -- Runs of read calls, and what calls hand over.
-use Rattle.std.specs.Prelude.{ℕ, ◌+◌, ◌*◌, List, [], ◌∷◌, Bool, leb, length, take}
+use Rattle.std.specs.Prelude.{ℕ, ◌+◌, ◌*◌, List, [], ◌∷◌, Bool, leb, length, take, Result, Ok, Err}
+use Rattle.reuse.specs.declared.refusals.Refusal.{Refusal}
 use Rattle.reuse.specs.Lists.{firsts}
 use Rattle.reuse.specs.Lru.{cold, at}
 use Rattle.reuse.specs.Written.{word_of}
-use Rattle.summary_calls.specs.declared.Written.{Written}
-use Rattle.summary_calls.specs.declared.Written.TheVariants.{Words, Refused}
 use Rattle.summary_calls.specs.Calls.{Wrote}
 use Rattle.plan_calls.specs.Calls.{Ran}
 use Rattle.session.specs.declared.Session.{Session}
 use Rattle.session_calls.specs.declared.Answer.{Answer}
-use Rattle.session_calls.specs.declared.Answer.TheVariants.{Cold, Distance, Refused as NoRead}
+use Rattle.session_calls.specs.declared.Answer.TheVariants.{Cold, Distance}
 use Rattle.session.specs.Reads.{read_of}
 
 -- the session after a list of read calls: each gets the session that the last returned, refused or not
@@ -18,21 +17,21 @@ session_after s [] = s
 session_after s (x ∷ xs) = session_after (read_of s x).session xs
 
 -- what these calls answer
-unfoldable pub answers_of : Session → List ℕ → List Answer
+unfoldable pub answers_of : Session → List ℕ → List (Result Result Answer Refusal Refusal)
 answers_of s [] = []
 answers_of s (x ∷ xs) = (read_of s x).answer ∷ answers_of (read_of s x).session xs
 
 -- an answer as the distance buffer writes it; a refusal, which none is here, as 0
-abbrev pub written : Answer → ℕ
-written (Cold n k) = word_of (cold n)
-written (Distance d n k) = word_of (at d)
-written (NoRead n) = 0
+abbrev pub written : Result Answer Refusal → ℕ
+written (Ok (Cold n k)) = word_of (cold n)
+written (Ok (Distance d n k)) = word_of (at d)
+written (Err n) = 0
 
 -- a read joins those accepted unless it was refused
-abbrev pub keep : Answer → ℕ → List ℕ → List ℕ
-keep (Cold n k) x xs = x ∷ xs
-keep (Distance d n k) x xs = x ∷ xs
-keep (NoRead n) x xs = xs
+abbrev pub keep : Result Answer Refusal → ℕ → List ℕ → List ℕ
+keep (Ok (Cold n k)) x xs = x ∷ xs
+keep (Ok (Distance d n k)) x xs = x ∷ xs
+keep (Err n) x xs = xs
 
 -- the reads of these calls that were accepted
 unfoldable pub accepted : Session → List ℕ → List ℕ
@@ -49,9 +48,9 @@ abbrev pub Outcome : Type 0
 Outcome = Reply (List ℕ)
 
 -- by the answer and the buffer
-abbrev pub outcome_of : Written → List ℕ → Outcome
-outcome_of (Words n) buffer = gives (take n buffer)
-outcome_of (Refused n) buffer = refused n
+abbrev pub outcome_of : Result ℕ Refusal → List ℕ → Outcome
+outcome_of (Ok n) buffer = gives (take n buffer)
+outcome_of (Err n) buffer = refused n
 
 -- of a call
 abbrev pub outcome : Wrote → Outcome

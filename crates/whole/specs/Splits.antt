@@ -1,11 +1,10 @@
 -- One store split among customers, said of their logs.
-use Rattle.std.specs.Prelude.{ℕ, ◌≤◌, ◌<◌, max, ◌≡◌, ◌↔◌, true, length, drop, get_or}
+use Rattle.std.specs.Prelude.{ℕ, ◌≤◌, ◌<◌, max, ◌≡◌, ◌↔◌, true, length, drop, get_or, Ok}
 use mathlib.Core.List.{List, [], ◌∷◌, ◌++◌, map, flatten, Memᴰ}
 use Rattle.reuse.specs.Limits.{max_store, max_customers}
 use Rattle.reuse.specs.Lists.{sum, firsts}
 use Rattle.reuse.specs.Summary.{summary_of}
 use Rattle.reuse.specs.Traces.{Within}
-use Rattle.split_calls.specs.declared.SplitAnswer.TheVariants.{Misses}
 use Rattle.split_calls.specs.Split.{Allowed, cached_misses, not_after}
 use Rattle.split_calls.specs.Calls.{Divided, split_call}
 use Rattle.split_calls.specs.Refusals.{split_refusal}
@@ -28,7 +27,7 @@ cached_rank logs shares = cached_misses logs shares ∷ sum shares ∷ shares
 
 -- these shares are the answer: the misses are those of caches as large, they may be given, and no others that may come before them
 pub record Shared (logs : List (List ℕ)) (store : ℕ) (leasts buffer shares : List ℕ) : Type 0 where
-  pub answered : split_of_logs logs store leasts buffer ≡ record { answer = Misses (cached_misses logs shares); shares = shares ++ drop (length leasts) buffer }
+  pub answered : split_of_logs logs store leasts buffer ≡ record { answer = Ok (cached_misses logs shares); shares = shares ++ drop (length leasts) buffer }
   pub allowed : Allowed leasts store shares
   -- none is above both its least and the number of the customer's extents
   pub needed : (i : ℕ) → get_or shares i 0 ≤ max (get_or leasts i 0) (length (firsts (get_or logs i [])))

@@ -1,4 +1,5 @@
 -- `insertion::one_more` meets its contract.
+use Rattle.std.specs.Prelude.{Ok}
 use mathlib.Core.Path.{sym, ap, ◌∙◌}
 use Prim.Native.Nat.{ℕ}
 use native.Mathlib.Omega.{arith}
@@ -6,7 +7,6 @@ use lib.ListN.{length-replicate}
 use mir.Syntax.{w64}
 use mir.ValLaws.{to_z-of_z}
 use Rattle.reuse.specs.Limits.{max_extents}
-use Rattle.insertion_calls.specs.declared.InsertionAnswer.TheVariants.{Change}
 use Rattle.insertion_calls.proofs.Calls.{call-past, call-reads}
 use Rattle.insertion.proofs.Following.{ahead_small}
 use Rattle.insertion.proofs.Inserting.{front-ready, first-over, follow-ready, second-over, far-ready, third-over, change-told}
@@ -50,5 +50,5 @@ overflow_add-ahead c =
 
 pub returns : goal.returns
 returns c =
-    ap Change (to_z-of_z w64 c.change.result (record { sfits = c.change.type_inv }) ∙ c.change.ensures)
+    ap Ok (to_z-of_z w64 c.change.result (record { sfits = c.change.type_inv }) ∙ c.change.ensures)
     ∙ change-told c.args.trace.now _ c.if-reads-place.false (omega (arith, c.if-reads.false)) _ c.args.size c.if-reads.false _ _ _ c.hold-before.ensures c.if-before-gt-MAX_EXTENTS.false _ c.ahead-ahead.ensures _ _ c.follow-traced.ensures c.if-traced-gt-MAX_EXTENTS.false _ _ c.hold-held.ensures (rw c.extents_with-over.ensures at c.if-over.false)

@@ -1,10 +1,10 @@
 -- `moments::return_to` meets its contract.
+use Rattle.std.specs.Prelude.{Ok}
 use mathlib.Core.Path.{◌≡◌, sym, ap, ◌∙◌}
 use native.Mathlib.Omega.{arith}
 use mathlib.Core.Bool.{true}
 use Rattle.session.specs.declared.Session.{Session}
 use Rattle.session.specs.Sessions.{sound}
-use Rattle.moments.specs.declared.MomentAnswer.TheVariants.{Done}
 use Rattle.moments.specs.Names.{is_name, is_set, session_under}
 use Rattle.moments.proofs.Places.{place-within, set-lies, kept_under}
 use Rattle.moments.proofs.Calls.{return-not, return-unset, return-unsound, return-done}
@@ -63,5 +63,5 @@ returns c =
     let at = goal.at.returns c in
     let e = under at.After-session_in-kept in
     let asked = c.sound-whole.ensures ∙ ap sound e in
-    ap (λ (r : Session). record { session = r; answer = Done }) e
+    ap (λ (r : Session). record { session = r; answer = Ok tt }) e
     ∙ sym (return-done _ _ _ (named at.Else-none) (set at.Else-unset) (sym asked ∙ c.if-not-whole.false))

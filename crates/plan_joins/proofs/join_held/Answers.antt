@@ -1,8 +1,9 @@
 -- `plan_joins::join_held` meets its contract.
+use Rattle.std.specs.Prelude.{Result}
+use Rattle.reuse.specs.declared.refusals.Refusal.{Refusal}
 use mathlib.Core.Path.{◌≡◌, sym, ◌∙◌}
 use native.Mathlib.Omega.{arith}
 use lib.Seq.{length-take-le}
-use Rattle.summary_calls.specs.declared.Written.{Written}
 use Rattle.plan_calls.specs.Calls.{count_of}
 use Rattle.plan_joins.proofs.Joins.{Holdable, Gives, level-short, held-long, words_long, out-short, gives_none, gives_both}
 use Rattle.plan_joins.proofs.join_held.Goals as goal
@@ -13,7 +14,7 @@ holdable : (c : Else-out-words) → Holdable c.args.work.now c.args.held c.args.
 holdable c = record { level = omega arith; first = omega arith; second = omega arith; fits = omega arith }
 
 -- what is left when they are joined, by the answer
-joined : (c : After-join-answer) → Holdable c.args.work.now c.args.held c.args.out.now c.args.words → (answer : Written) → c.join-answer.result ≡ answer →
+joined : (c : After-join-answer) → Holdable c.args.work.now c.args.held c.args.out.now c.args.words → (answer : Result ℕ Refusal) → c.join-answer.result ≡ answer →
     Gives c.args.work.now c.args.held c.args.out.now c.args.words (count_of answer) c.put.new.out c.join-answer.new.out
 joined c fits answer e =
     gives_both c.args.work.now c.args.held c.args.out.now c.args.words fits (λ z. omega (arith, z)) _ c.put.ensures answer _ (sym e ∙ c.join-answer.ensures.0) c.join-answer.ensures.1

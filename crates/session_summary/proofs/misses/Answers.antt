@@ -1,10 +1,10 @@
 -- `session_summary::misses` meets its contract. The reads less the hits are the misses.
+use Rattle.std.specs.Prelude.{Ok}
 use mathlib.Core.Path.{◌≡◌, sym, ap, ◌∙◌}
 use mathlib.Core.Bool.{true}
 use Prim.Native.Nat.{◌-◌}
 use native.Mathlib.Omega.{arith}
 use Rattle.reuse.specs.Summary.{misses_of}
-use Rattle.summary_calls.specs.declared.MissCount.TheVariants.{Misses}
 use Rattle.session.specs.Sessions.{Wide, old_of, sound}
 use Rattle.session_summary.specs.Summaries.{session_words, misses_call}
 use Rattle.session_calls.proofs.Summaries.{hits-reads, hits_few}
@@ -40,4 +40,4 @@ returns c =
     let w = wide b.Start in
     let o = ok b.Else-not-sound in
     let n : misses_of (session_words s) c.args.size ≡ s.reads - c.hits.result = omega (arith, c.hits.ensures, hits-reads (old_of s) (rows s w o) c.args.size) in
-    sym (misses-given s w o c.args.size ∙ ap Misses n)
+    sym (misses-given s w o c.args.size ∙ ap Ok n)

@@ -1,9 +1,9 @@
 -- `session_summary::share` meets its contract.
+use Rattle.std.specs.Prelude.{Ok}
 use mathlib.Core.Path.{◌≡◌, sym, ap, ◌∙◌}
 use mathlib.Core.Bool.{true}
 use Prim.Native.Nat.{ℕ, ◌-◌}
 use Rattle.reuse.specs.Summary.{hits_of, servable_of}
-use Rattle.summary_calls.specs.declared.ShareAnswer.TheVariants.{Answered}
 use Rattle.summary_calls.specs.Calls.{share_of}
 use Rattle.session.specs.Sessions.{Wide, old_of, sound}
 use Rattle.session_summary.specs.Summaries.{session_words, share_call}
@@ -43,7 +43,7 @@ returns c =
     let o = ok b.Else-not-sound in
     let s = c.args.s in
     let n : s.reads - s.count ≡ servable_of (session_words s) = ap (λ (v : ℕ). s.reads - v) (count-extents s w o) ∙ sym (servable-session (old_of s) (rows s w o)) in
-    ap Answered
+    ap Ok
     (c.share_of.ensures
     ∙ ap (λ (h : ℕ). share_of h (s.reads - s.count)) c.hits-hit.ensures
     ∙ ap (share_of (hits_of (session_words s) c.args.size)) n)

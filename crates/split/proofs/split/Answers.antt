@@ -1,5 +1,5 @@
 -- `split::split` meets its contract.
-use Rattle.split_calls.specs.declared.SplitAnswer.TheVariants.{Misses}
+use Rattle.std.specs.Prelude.{Ok}
 use Rattle.split_calls.proofs.Calls.{by_parts, customers-fit, customers-none, customers-many, call-store, call-customers, call-summary, call-least, call-room, call-split}
 use Rattle.split_calls.specs.Calls.{customers_fit, all_formed, divided}
 use Rattle.split_calls.specs.Cuts.{cut_summaries}
@@ -63,4 +63,4 @@ returns c =
     let (s, n, f, e) = known (goal.at.returns c).After-total in
     let r = c.search.ensures in
     let p = by_parts (call-split a.store a.leasts.now a.summaries.now a.shares.now s n f (omega arith) (omega arith)) in
-    (ap Misses r.misses ∙ p.0, r.found ∙ p.1)
+    (ap Ok r.misses ∙ p.0, r.found ∙ p.1)

@@ -1,11 +1,11 @@
 -- `summary_counts::misses` meets its contract.
+use Rattle.std.specs.Prelude.{Ok}
 use mathlib.Core.Path.{◌≡◌, sym, ap, ◌∙◌}
 use Prim.Native.Nat.{◌-◌}
 use native.Mathlib.Omega.{arith}
 use mathlib.Core.Bool.{true}
 use lib.ListN.{get_or}
 use Rattle.reuse.specs.Summary.{well_formed, misses_of}
-use Rattle.summary_calls.specs.declared.MissCount.TheVariants.{Misses}
 use Rattle.summary_calls.specs.Calls.{misses_call}
 use Rattle.summary_calls.proofs.Fields.{given, shaped, reads-split}
 use Rattle.summary_counts.proofs.misses.Goals as goal
@@ -39,4 +39,4 @@ returns c =
     let h : well_formed w ≡ true = sym c.well_formed-2.ensures ∙ c.if-not-well_formed.false in
     let n = c.args.size in
     let e : get_or w 0 0 - c.hits.result ≡ misses_of w n = omega (arith, c.hits.ensures, reads-split w h n) in
-    sym (simp h (ap Misses (sym e)))
+    sym (simp h (ap Ok (sym e)))

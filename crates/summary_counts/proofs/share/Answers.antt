@@ -1,10 +1,10 @@
 -- `summary_counts::share` meets its contract.
+use Rattle.std.specs.Prelude.{Ok}
 use mathlib.Core.Path.{◌≡◌, sym, ap, ◌∙◌}
 use native.Mathlib.Omega.{arith}
 use mathlib.Core.Bool.{true}
 use Rattle.reuse.specs.Summary.{well_formed, reads_of, extents_of, servable_of}
 use Rattle.reuse.proofs.Formed.{formed}
-use Rattle.summary_calls.specs.declared.ShareAnswer.TheVariants.{Answered}
 use Rattle.summary_calls.specs.Calls.{share_call}
 use Rattle.summary_calls.proofs.Fields.{given, shaped}
 use Rattle.summary_counts.proofs.share.Goals as goal
@@ -34,4 +34,4 @@ overflow_sub-servable c = omega (arith, (formed _ (pass (goal.at.overflow_sub-se
 
 pub returns : goal.returns
 unfolding share_call servable_of reads_of extents_of
-returns c = sym (simp (pass (goal.at.returns c).Else-not-well_formed, ← c.hits-hits.ensures) (ap Answered (sym c.share_of.ensures)))
+returns c = sym (simp (pass (goal.at.returns c).Else-not-well_formed, ← c.hits-hits.ensures) (ap Ok (sym c.share_of.ensures)))

@@ -1,7 +1,7 @@
 -- `watch::share` meets its contract.
+use Rattle.std.specs.Prelude.{Ok}
 use mathlib.Core.Path.{sym, ap, ◌∙◌}
 use native.Mathlib.Omega.{arith}
-use Rattle.summary_calls.specs.declared.ShareAnswer.TheVariants.{Answered}
 use Rattle.watch.specs.Watching.{share_call}
 use Rattle.watch.proofs.Soundness.{sound-watch}
 use Rattle.watch.proofs.share.Goals as goal
@@ -15,4 +15,4 @@ overflow_sub-servable c = omega (arith, (sound-watch _ (sym c.sound.ensures ∙ 
 
 pub returns : goal.returns
 unfolding share_call
-returns c = sym (simp (sym c.sound.ensures ∙ c.if-not-sound.false) (ap Answered (sym c.share_of.ensures)))
+returns c = sym (simp (sym c.sound.ensures ∙ c.if-not-sound.false) (ap Ok (sym c.share_of.ensures)))

@@ -7,18 +7,18 @@ use Rattle.session.proofs.Corresponds.{Facts, sound-facts}
 use Rattle.session.proofs.Ways.{Ready, ready_made, ready-there, search_of, found, Accepted, gatherable, refused-way, accepts, moves, known-way, enters, cold-way}
 use borrow.Author.Rules.{rules}
 use Rattle.session.proofs.Session.read.Goals as goal
-use Rattle.session.proofs.Session.read.Goals.{After-find-f, Else-n-ne0, Joined-filled, Start, then-filled, else-filled}
+use Rattle.session.proofs.Session.read.Goals.{After-find-f, In_default, Joined-filled, Start, then-filled, else-filled}
 
 -- the widths of the session's arrays
 wide : (c : Start) → Wide c.args.self
 wide c = record { first-wide = search rules; hist-wide = search rules; slots-wide = search rules; rights-wide = search rules }
 
 -- the read is accepted
-accepted : (c : Else-n-ne0) → Wide c.args.self → Accepted c.args.self c.args.extent
-accepted c w = accepts _ w _ (sym c.refusal-n.ensures ∙ c.if-n-ne0.false)
+accepted : (c : In_default) → Wide c.args.self → Accepted c.args.self c.args.extent
+accepted c w = accepts _ w _ (sym c.refusal-refusal.ensures ∙ c.in_default.is)
 
 -- what the test of the session says
-facts : (c : Else-n-ne0) → Wide c.args.self → Facts c.args.self
+facts : (c : In_default) → Wide c.args.self → Facts c.args.self
 facts c w = sound-facts _ w (accepted c w).ok
 
 -- room is made
@@ -34,43 +34,43 @@ made c f =
 searched : (c : After-find-f) → Ready c.args.self c.if-filled.self → c.find-f.result ≡ search_of c.if-filled.self c.args.extent
 searched c r = c.find-f.ensures ∙ found c.args.self c.if-filled.self r c.args.extent
 
-pub returns-then-n-ne0 : goal.returns-then-n-ne0
-returns-then-n-ne0 c = c.refused.ensures ∙ refused-way _ (wide (goal.at.returns-then-n-ne0 c).Start) _ _ c.refusal-n.ensures c.if-n-ne0.true
+pub returns-in-Some : goal.returns-in-Some
+returns-in-Some c = c.refused.ensures ∙ refused-way _ (wide (goal.at.returns-in-Some c).Start) _ _ (sym c.in-Some.is ∙ c.refusal-refusal.ensures)
 
 pub gathered-self-requires : goal.gathered-self-requires
 gathered-self-requires c =
     let b = goal.at.gathered-self-requires c in
-    gatherable _ (facts b.Else-n-ne0 (wide b.Start))
+    gatherable _ (facts b.In_default (wide b.Start))
 
 pub overflow_cast-below : goal.overflow_cast-below
 overflow_cast-below c =
     let b = goal.at.overflow_cast-below c in
-    omega (arith, (made b.Joined-filled (facts b.Else-n-ne0 (wide b.Start))).roomed.room)
+    omega (arith, (made b.Joined-filled (facts b.In_default (wide b.Start))).roomed.room)
 
 pub entered-requires : goal.entered-requires
 entered-requires c =
     let b = goal.at.entered-requires c in
     let w = wide b.Start in
-    let r = made b.Joined-filled (facts b.Else-n-ne0 w) in
-    enters _ w _ (accepted b.Else-n-ne0 w) _ _ r (searched b.After-find-f r) c.if-f-eq-SLOTS.true
+    let r = made b.Joined-filled (facts b.In_default w) in
+    enters _ w _ (accepted b.In_default w) _ _ r (searched b.After-find-f r) c.if-f-eq-SLOTS.true
 
 pub returns-then-f-eq-SLOTS : goal.returns-then-f-eq-SLOTS
 returns-then-f-eq-SLOTS c =
     let b = goal.at.returns-then-f-eq-SLOTS c in
     let w = wide b.Start in
-    let r = made b.Joined-filled (facts b.Else-n-ne0 w) in
-    c.entered.ensures ∙ cold-way _ w _ (accepted b.Else-n-ne0 w) _ _ r (searched b.After-find-f r) c.if-f-eq-SLOTS.true
+    let r = made b.Joined-filled (facts b.In_default w) in
+    c.entered.ensures ∙ cold-way _ w _ (accepted b.In_default w) _ _ r (searched b.After-find-f r) c.if-f-eq-SLOTS.true
 
 pub moved-requires : goal.moved-requires
 moved-requires c =
     let b = goal.at.moved-requires c in
     let w = wide b.Start in
-    let r = made b.Joined-filled (facts b.Else-n-ne0 w) in
-    moves _ w _ (accepted b.Else-n-ne0 w) _ _ r (searched b.After-find-f r) c.if-f-eq-SLOTS.false
+    let r = made b.Joined-filled (facts b.In_default w) in
+    moves _ w _ (accepted b.In_default w) _ _ r (searched b.After-find-f r) c.if-f-eq-SLOTS.false
 
 pub returns : goal.returns
 returns c =
     let b = goal.at.returns c in
     let w = wide b.Start in
-    let r = made b.Joined-filled (facts b.Else-n-ne0 w) in
-    c.moved.ensures ∙ known-way _ w _ (accepted b.Else-n-ne0 w) _ _ r (searched b.After-find-f r) c.if-f-eq-SLOTS.false
+    let r = made b.Joined-filled (facts b.In_default w) in
+    c.moved.ensures ∙ known-way _ w _ (accepted b.In_default w) _ _ r (searched b.After-find-f r) c.if-f-eq-SLOTS.false
