@@ -1,5 +1,5 @@
 -- Turns of small loops over a slice.
-use mathlib.Core.Path.{◌≡◌, refl, sym, ap, ◌∙◌}
+use mathlib.Core.Path.{◌≡◌, sym, ap, ◌∙◌}
 use Prim.Native.Nat.{ℕ, ◌+◌, ◌-◌, ◌≤◌, ◌<◌}
 use native.Mathlib.Omega.{arith}
 use native.Mathlib.Numerals.{add-one}
@@ -21,20 +21,14 @@ part-rest s k = take_all (length s - k) (drop k s) (simp length-drop (omega arit
 
 -- x was found among the first i words, or it is in the slice where it is in what is left
 pub record Looked (s : List ℕ) (x : ℕ) (found : Bool) (i : ℕ) : Type 0 where
-  pub within : i ≤ length s
   pub same : (found || mem x (drop i s)) ≡ mem x s
 
 module _ (s : List ℕ) (x : ℕ) where
-  -- before the first word
-  pub look-start : Looked s x false 0
-  look-start = record { within = omega arith; same = refl }
-
   module _ (found : Bool) (i : ℕ) (h : Looked s x found i) where
     -- the word is x
     pub look_hit : i < length s → get_or s i 0 ≡ x → Looked s x true (i + 1)
     unfolding mem
     look_hit l e = record {
-      within = omega arith;
       same = sym (sym h.same ∙ rw (next_word s i l) (simp (eq-eqb x (get_or s i 0) (sym e), or-true)));
     }
 
@@ -42,7 +36,6 @@ module _ (s : List ℕ) (x : ℕ) where
     pub look-miss : i < length s → (get_or s i 0 ≡ x → ⊥) → Looked s x found (i + 1)
     unfolding mem
     look-miss l e = record {
-      within = omega arith;
       same = sym (sym h.same ∙ rw (next_word s i l) (simp (ne_eqb x (get_or s i 0) (λ q. e (sym q)))));
     }
 

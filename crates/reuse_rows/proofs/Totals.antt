@@ -16,10 +16,6 @@ pub record Summed (s : List ℕ) (t i : ℕ) : Type 0 where
   pub same : t + sum (drop i s) ≡ sum s
 
 module _ (s : List ℕ) where
-  -- before the first word
-  pub sum-start : Summed s 0 0
-  sum-start = record { within = omega arith; small = omega arith; same = omega arith }
-
   module _ (t i : ℕ) (h : Summed s t i) where
     -- the sum by the next word and those after it
     pub sum-next : i < length s → t + (get_or s i 0 + sum (drop (i + 1) s)) ≡ sum s

@@ -13,12 +13,10 @@ pub fn contains(s: &[u32], x: u32) -> bool
     ensures { result ≡ mem x s.now }
 {
     let mut found = false;
-    let mut i: usize = 0;
-    while i < s.len() {
-        if s[i] == x {
+    for &y in s {
+        if y == x {
             found = true;
         }
-        i = i + 1;
     }
     found
 }
@@ -28,13 +26,11 @@ pub fn all_zero(row: &[u32]) -> bool
     ensures { result ≡ blank row.now }
 {
     let mut clear = true;
-    let mut i: usize = 0;
-    while i < row.len() {
-        let other = row[i] != 0;
+    for &x in row {
+        let other = x != 0;
         if other {
             clear = false;
         }
-        i = i + 1;
     }
     clear
 }
@@ -43,22 +39,10 @@ pub fn all_zero(row: &[u32]) -> bool
 pub fn total(row: &[u32]) -> u64
     ensures { (result ≡ sum (take max_extents row.now)) × (result ≤ max_extents * 2 ^ 32) }
 {
-    if row.len() <= MAX_EXTENTS {
-        return sum_of(row);
-    }
-    sum_of(&row[..MAX_EXTENTS])
-}
-
-// The sum of no more words than the limit.
-fn sum_of(s: &[u32]) -> u64
-    requires { length s.now ≤ max_extents }
-    ensures { (result ≡ sum s.now) × (result ≤ max_extents * 2 ^ 32) }
-{
+    let most = row.len().min(MAX_EXTENTS);
     let mut t: u64 = 0;
-    let mut i: usize = 0;
-    while i < s.len() {
-        t = t + s[i] as u64;
-        i = i + 1;
+    for &x in &row[..most] {
+        t += x as u64;
     }
     t
 }

@@ -5,15 +5,19 @@ use native.Mathlib.Omega.{arith}
 use native.Mathlib.Numerals.{add-one}
 use native.Mathlib.Decide.{ℕ_discrete}
 use mathlib.Core.List.{List, [], ◌∷◌, ◌++◌, append_assoc, append-nil}
-use mathlib.Core.Bool.{true, false, ◌||◌, or-false}
+use mathlib.Core.Bool.{Bool, true, false, ◌||◌, or-false}
 use lib.Dec.{eqb}
 use lib.ListN.{length, take, drop, get_or, set, replicate, drop_of_length-le, take-append-drop, length-take, length-set, length-replicate}
-use lib.Seq.{take-suc, take_all, get_or-take, get_or-set_same, get_or-set_other}
+use Rattle.std.specs.Prelude.{IsTrue, EachIndex, ◌↔◌}
+use Rattle.std.proofs.lemmas.List.{take_min}
+use Rattle.std.proofs.Math.Nat.{min_comm}
+use lib.Seq.{take-suc, take_all, get_or-set_same, get_or-set_other}
 use borrow.Author.Tests.{eq-eqb, ne_eqb, eqb-true, eqb-false}
 use Rattle.reuse.specs.Limits.{max_extents}
 use Rattle.reuse.specs.Lists.{mem, distinct, all_in}
 use Rattle.reuse_tables.specs.Tables.{table_places, bucket_of, hints_from, hints_of, stands_by, looked_up, Notes}
-use Rattle.reuse.proofs.Lists.{by-test, clash, mem-append}
+use Rattle.reuse.proofs.Lists.{by-test, clash, mem-at, mem-append}
+use Rattle.reuse.proofs.Sizes.{in_all}
 use Rattle.reuse.proofs.Distinct.{distinct_snoc}
 use Rattle.reuse.proofs.Cache.{distinct-take}
 use Rattle.reuse_rows.proofs.Slices.{next_word}
@@ -94,36 +98,27 @@ looked-up words table x e =
     absent : p ≡ 0 → mem x (take max_extents words) ≡ false
     absent z = by-test (mem x (take max_extents words)) (λ m. absurd ((hints-notes words).noted x m (rw e at z))) (λ m. m)
 
--- the first i words are noted; what is left is still to be noted
-pub record Noting (words : List ℕ) (n : ℕ) (table : List ℕ) (i : ℕ) : Type 0 where
-  pub most : n ≡ min max_extents (length words)
-  pub within : i ≤ n
-  pub same : hints_from table (suc i) (drop i (take max_extents words)) ≡ hints_of words
+-- the first i of the words within the limit are noted; what is left of them is still to be noted
+pub record Noting (words noted table : List ℕ) (i : ℕ) : Type 0 where
+  pub few : length noted ≤ max_extents
+  pub same : hints_from table (suc i) (drop i noted) ≡ hints_of words
 
-module _ (words : List ℕ) (n : ℕ) where
+module _ (words noted : List ℕ) where
   -- none is noted
-  pub note-start : n ≡ min max_extents (length words) → Noting words n (replicate table_places 0) 0
+  pub note-start : noted ≡ take (min (length words) max_extents) words → Noting words noted (replicate table_places 0) 0
   unfolding hints_of
-  note-start m = record { most = m; within = omega arith; same = refl }
+  note-start e = record { few = omega (arith, ap length e, length-take (min (length words) max_extents) words); same = rw (e, ap (λ (n : ℕ). take n words) (min_comm (length words) max_extents), take_min max_extents words) refl }
 
-  module _ (table : List ℕ) (i : ℕ) (h : Noting words n table i) where
+  module _ (table : List ℕ) (i : ℕ) (h : Noting words noted table i) where
     -- the next one
-    pub note-turn : i < n → Noting words n (set table (bucket_of (get_or words i 0)) (i + 1)) (i + 1)
+    pub note-turn : i < length noted → Noting words noted (set table (bucket_of (get_or noted i 0)) (i + 1)) (i + 1)
     unfolding hints_from
-    note-turn l =
-        let next : drop i (take max_extents words) ≡ get_or words i 0 ∷ drop (i + 1) (take max_extents words) =
-        next_word (take max_extents words) i (simp length-take (omega (arith, h.most)))
-        ∙ rw (get_or-take max_extents words i 0 (omega (arith, h.most))) in
-        record {
-          most = h.most;
-          within = omega arith;
-          same = let s : i + 1 ≡ suc i = add-one i in rw s (rw (next, s) at h.same);
-        }
+    note-turn l = record { few = h.few; same = rw add-one (rw (next_word noted i l, add-one) at h.same) }
 
     -- all are
-    pub note-end : n ≤ i → table ≡ hints_of words
+    pub note-end : length noted ≤ i → table ≡ hints_of words
     unfolding hints_from
-    note-end l = rw (drop_of_length-le (take max_extents words) {i = i} (simp length-take (omega (arith, h.most)))) at h.same
+    note-end l = rw (drop_of_length-le noted {i = i} l) at h.same
 
 -- the first i words are apart, and each is noted in the table
 pub record Apart (s seen : List ℕ) (i : ℕ) : Type 0 where
@@ -166,28 +161,17 @@ module _ (s : List ℕ) where
     pub apart-end : length s ≤ i → true ≡ distinct s
     apart-end l = sym (rw (take_all i s l) at h.apart)
 
--- the words passed stand in t
-pub record Among (s t : List ℕ) (i : ℕ) : Type 0 where
-  pub within : i ≤ length s
-  pub same : all_in (drop i s) t ≡ all_in s t
+-- each word of s stands in t
+all-in : (s t : List ℕ) → ((k : ℕ) → k < length s → mem (get_or s k 0) t ≡ true) → all_in s t ≡ true
+unfolding all_in
+all-in [] t h = refl
+all-in (x ∷ s) t h = rw (h 0 (omega arith)) (all-in s t (λ k l. h (suc k) (omega arith)))
 
-module _ (s t : List ℕ) where
-  -- before the first word
-  pub among-start : Among s t 0
-  among-start = record { within = omega arith; same = refl }
-
-  module _ (i : ℕ) (h : Among s t i) where
-    -- a word of t
-    pub among-turn : i < length s → mem (get_or s i 0) t ≡ true → Among s t (i + 1)
-    unfolding all_in
-    among-turn l m = record { within = omega arith; same = sym (sym h.same ∙ rw (next_word s i l) (simp m)) }
-
-    -- a word that is not of t
-    pub among-not : i < length s → mem (get_or s i 0) t ≡ false → false ≡ all_in s t
-    unfolding all_in
-    among-not l m = sym (sym h.same ∙ rw (next_word s i l) (simp m))
-
-    -- no word is left
-    pub among-end : length s ≤ i → true ≡ all_in s t
-    unfolding all_in
-    among-end l = sym (sym h.same ∙ rw (drop_of_length-le s {i = i} l))
+-- whether each does, by the table of the words of t
+pub all-told : (s t table : List ℕ) (r : Bool) → table ≡ hints_of t → IsTrue r ↔ EachIndex s (λ k. IsTrue (looked_up t table (get_or s k 0))) → r ≡ all_in s t
+all-told s t table r e h =
+    by-test r
+    (λ q. q ∙ sym (all-in s t (λ k l. sym (looked-up t table (get_or s k 0) e) ∙ h.0 q k l)))
+    (λ q. by-test (all_in s t)
+    (λ a. clash (h.1 (λ k l. looked-up t table (get_or s k 0) e ∙ in_all s t a (get_or s k 0) (mem-at s k (get_or s k 0) l refl))) q)
+    (λ a. q ∙ sym a))

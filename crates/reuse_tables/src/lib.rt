@@ -31,15 +31,9 @@ fn note(words: &[u32], table: &mut [u16; PLACES])
     requires { table.old ≡ replicate table_places 0 }
     ensures { table.new ≡ hints_of words.now }
 {
-    let mut n = words.len();
-    if MAX_EXTENTS < n {
-        n = MAX_EXTENTS;
-    }
-    let mut i: usize = 0;
-    while i < n {
-        let h = bucket(words[i]);
-        i = i + 1;
-        table[h] = i as u16;
+    let noted = &words[..words.len().min(MAX_EXTENTS)];
+    for (i, &x) in noted.iter().enumerate() {
+        table[bucket(x)] = (i + 1) as u16;
     }
 }
 
@@ -47,8 +41,7 @@ fn note(words: &[u32], table: &mut [u16; PLACES])
 fn known(words: &[u32], hints: &[u16; PLACES], x: u32) -> bool
     ensures { result ≡ looked_up words.now hints.now x }
 {
-    let h = bucket(x);
-    stands(words, hints[h], x)
+    stands(words, hints[bucket(x)], x)
 }
 
 // Whether x stands among the words: as the word that the hint p gives, or else anywhere; past the limit where p gives none.
@@ -59,10 +52,8 @@ fn stands(words: &[u32], p: u16, x: u32) -> bool
         return beyond(words, x);
     }
     let i = p as usize - 1;
-    if i < words.len() {
-        if words[i] == x {
-            return true;
-        }
+    if i < words.len() && words[i] == x {
+        return true;
     }
     reuse_rows::contains(words, x)
 }
@@ -83,9 +74,7 @@ pub fn all_distinct(words: &[u32]) -> bool
     ensures { result ≡ distinct words.now }
 {
     let mut seen = [0u8; PLACES];
-    let mut i: usize = 0;
-    while i < words.len() {
-        let x = words[i];
+    for (i, &x) in words.iter().enumerate() {
         let h = bucket(x);
         if seen[h] != 0 {
             let twice = reuse_rows::contains(&words[..i], x);
@@ -94,7 +83,6 @@ pub fn all_distinct(words: &[u32]) -> bool
             }
         }
         seen[h] = 1;
-        i = i + 1;
     }
     true
 }
@@ -105,15 +93,7 @@ pub fn all_in(words: &[u32], among: &[u32]) -> bool
 {
     let mut table = [0u16; PLACES];
     note(among, &mut table);
-    let mut i: usize = 0;
-    while i < words.len() {
-        let stranger = !known(among, &table, words[i]);
-        if stranger {
-            return false;
-        }
-        i = i + 1;
-    }
-    true
+    words.iter().all(|&x| known(among, &table, x))
 }
 
 // The words, then those of `more` that do not stand among them, as F and R of a join are: as many as the limit of extents,
@@ -125,17 +105,14 @@ pub fn beside(words: &[u32], more: &[u32]) -> [u32; MAX_EXTENTS]
     note(words, &mut table);
     let mut row = reuse_copies::padded(words);
     let mut n = words.len();
-    let mut i: usize = 0;
-    while i < more.len() {
-        let x = more[i];
+    for &x in more {
         if !known(words, &table, x) {
             if MAX_EXTENTS <= n {
                 return row;
             }
             row[n] = x;
-            n = n + 1;
+            n += 1;
         }
-        i = i + 1;
     }
     row
 }
@@ -160,19 +137,15 @@ fn hold(held: &mut [u32], table: &mut [u16; PLACES], n: usize, words: &[u32]) ->
     ensures { Counted (take n held.old) words.now held.new table.new result }
 {
     let mut count = n;
-    let mut i: usize = 0;
-    while i < words.len() {
-        let x = words[i];
+    for &x in words {
         if !known(&held[..count], table, x) {
             if count == MAX_EXTENTS {
                 return MAX_EXTENTS + 1;
             }
             held[count] = x;
-            count = count + 1;
-            let h = bucket(x);
-            table[h] = count as u16;
+            count += 1;
+            table[bucket(x)] = count as u16;
         }
-        i = i + 1;
     }
     count
 }
@@ -181,5 +154,5 @@ fn hold(held: &mut [u32], table: &mut [u16; PLACES], n: usize, words: &[u32]) ->
 pub fn extents_of(trace: &[u32]) -> usize
     ensures { result ≡ min (length (firsts trace.now)) (suc max_extents) }
 {
-    extents_with(&trace[..0], trace)
+    extents_with(&[], trace)
 }

@@ -2,7 +2,7 @@
 use mathlib.Core.Path.{◌≡◌, refl, sym, ap, ◌∙◌}
 use mathlib.Core.List.{List}
 use mathlib.Core.Bool.{Bool, true, false, cond, and-false}
-use mathlib.Core.Logic.{◌≢◌}
+use mathlib.Core.Logic.{◌≢◌, ◌⊎◌, inl, inr}
 use Prim.Native.Nat.{ℕ, zero, suc, ◌+◌, ◌-◌, ◌≤◌, ◌<◌}
 use native.Mathlib.Omega.{arith}
 use native.Mathlib.Nat.{zero-add}
@@ -104,20 +104,13 @@ module _ (xs : List ℕ) (count : ℕ) (R : List ℕ) (next x : ℕ) where
   pub found-pair : length xs ≡ slot_count → length R ≡ right_count → next ≤ slot_count → found_in xs count R next x ≡ going_on (holds xs (marks_from levels count R) x) next 0
   found-pair w v l = found-walk w v l ∙ ap (λ (n : ℕ). record { slot = last_of test_of next; looked = n }) (sym (zero-add (length (looked_of test_of next))))
 
-  -- in slots of another length
-  pub found-other : (length xs ≡ slot_count → ⊥) → found_in xs count R next x ≡ nothing 0
+  -- in slots of another length, over right-hand sums of another, or below a slot that there is not
+  pub found_none : (length xs ≡ slot_count → ⊥) ⊎ ((length xs ≡ slot_count) × (length R ≡ right_count → ⊥)) ⊎ ((length xs ≡ slot_count) × (length R ≡ right_count) × (slot_count < next))
+      → found_in xs count R next x ≡ nothing 0
   unfolding found_in
-  found-other n = simp (ne_eqb (length xs) slot_count n)
-
-  -- over right-hand sums of another length
-  pub found-short : (length R ≡ right_count → ⊥) → found_in xs count R next x ≡ nothing 0
-  unfolding found_in
-  found-short n = simp (ne_eqb (length R) right_count n, and-false)
-
-  -- below a slot that there is not
-  pub found-past : slot_count < next → found_in xs count R next x ≡ nothing 0
-  unfolding found_in
-  found-past l = simp (lt-leb next slot_count l, and-false)
+  found_none (inl n) = simp (ne_eqb (length xs) slot_count n)
+  found_none (inr (inl (w, n))) = simp (ne_eqb (length R) right_count n, and-false)
+  found_none (inr (inr (w, v, l))) = simp (lt-leb next slot_count l, and-false)
 
 module _ (xs ms : List ℕ) (next x : ℕ) where
   module _ (s : Searched xs ms next) where

@@ -16,32 +16,18 @@ pub struct Found {
 // The slot below next that holds x and is marked, or the number of slots, and how many slots were looked at: the newest
 // first, down to that one. An unmarked slot of a sound session holds 0, so only for 0 a mark is worked out. In rows of
 // another length none is looked at.
-pub fn find<'a>(slots: &'a [u32], count: u32, rights: &'a [u32], next: usize, x: u32) -> Found
+pub fn find(slots: &[u32], count: u32, rights: &[u32], next: usize, x: u32) -> Found
     ensures { result ≡ found_in slots.now count rights.now next x }
 {
-    if slots.len() != SLOTS {
-        return Found {
-            slot: SLOTS,
-            looked: 0,
-        };
-    }
-    if rights.len() != RIGHTS {
-        return Found {
-            slot: SLOTS,
-            looked: 0,
-        };
-    }
-    if SLOTS < next {
+    if slots.len() != SLOTS || rights.len() != RIGHTS || SLOTS < next {
         return Found {
             slot: SLOTS,
             looked: 0,
         };
     }
     let mut looked: u32 = 0;
-    let mut i = next;
-    while 0 < i {
-        i = i - 1;
-        looked = looked + 1;
+    for i in (0..next).rev() {
+        looked += 1;
         if slots[i] == x {
             let other = x != 0;
             if other {
@@ -60,17 +46,14 @@ pub fn find<'a>(slots: &'a [u32], count: u32, rights: &'a [u32], next: usize, x:
 }
 
 // Whether the rows are as long as a session's slots.
-fn paired<'a>(slots: &'a [u32], marks: &'a [u32]) -> bool
+fn paired(slots: &[u32], marks: &[u32]) -> bool
     ensures { result ≡ paired slots.now marks.now }
 {
-    if slots.len() != SLOTS {
-        return false;
-    }
-    marks.len() == SLOTS
+    slots.len() == SLOTS && marks.len() == SLOTS
 }
 
 // The extents of the marked slots, in order, from slot 0; none in rows of another length.
-pub fn gather<'a>(slots: &'a [u32], marks: &'a [u32]) -> [u32; SLOTS]
+pub fn gather(slots: &[u32], marks: &[u32]) -> [u32; SLOTS]
     ensures { result ≡ gathered_row slots.now marks.now }
 {
     let mut out = [0u32; SLOTS];
@@ -78,13 +61,11 @@ pub fn gather<'a>(slots: &'a [u32], marks: &'a [u32]) -> [u32; SLOTS]
         return out;
     }
     let mut n: usize = 0;
-    let mut i: usize = 0;
-    while i < SLOTS {
-        if marks[i] == 1 {
+    for (i, &mark) in marks.iter().enumerate() {
+        if mark == 1 {
             out[n] = slots[i];
-            n = n + 1;
+            n += 1;
         }
-        i = i + 1;
     }
     out
 }

@@ -1,5 +1,5 @@
 -- A node on a way up: its number, and the level that it stands on.
-use Rattle.std.proofs.Common.{◌≡◌, ℕ, zero, suc, ◌+◌, ◌/◌, ◌%◌, ◌^◌, ◌<◌, arith}
+use Rattle.std.proofs.Common.{◌≡◌, ℕ, suc, ◌+◌, ◌/◌, ◌%◌, ◌^◌, ◌<◌, arith}
 
 -- node p is child s of a level with d levels above it, whose points stand from b on; N slots stand first
 pub record Place (N p d b s : ℕ) : Type 0 where
@@ -24,10 +24,6 @@ module _ (N p d b s : ℕ) (at : Place N p (suc d) b s) where
   pub place-side : p % 2 ≡ s % 2
   place-side = omega (arith, at.is)
 
--- the root has no level above it
-pub place-root : (N p b s : ℕ) → Place N p zero b s → p + 2 < N + N → ⊥
-place-root N p b s at h = omega (arith, at.is, at.level, at.inside)
-
--- any other node has
-pub place-below : (N p d b s : ℕ) → Place N p (suc d) b s → N + N < p + 3 → ⊥
-place-below N p d b s at h = omega (arith, at.is, at.level, at.inside)
+  -- one of the branching points
+  pub place-inner : p / 2 + 1 < N
+  place-inner = omega (arith, at.is, at.level, at.inside)

@@ -9,10 +9,7 @@ ghost use Rattle.session_sums.specs.Sums.{first_marks};
 ghost use Rattle.session_rights.specs.Rights.{rights_of, children, none_above};
 ghost use Rattle.session_points.specs.Points.{walked_up, changed_by, mark_at, worked_out, Level};
 
-use reuse::{RIGHTS, SLOTS};
-
-// The root among the nodes.
-const ROOT: usize = SLOTS + RIGHTS - 1;
+use reuse::{LEVELS, RIGHTS, SLOTS};
 
 // What a way up read: the total of the right-hand sums, and how many they are.
 #[derive(Drop)]
@@ -26,27 +23,21 @@ pub struct Walked {
 pub fn above(rights: &[u32], s: usize) -> Walked
     ensures { result ≡ walked_up rights.now s }
 {
-    if rights.len() != RIGHTS {
-        return Walked { total: 0, count: 0 };
-    }
-    if SLOTS <= s {
+    if rights.len() != RIGHTS || SLOTS <= s {
         return Walked { total: 0, count: 0 };
     }
     let mut total: u64 = 0;
     let mut count: u32 = 0;
     let mut node = s;
-    while node < ROOT {
+    for _level in 0..LEVELS {
         let left = node % 2 == 0;
         if left {
-            total = total + rights[node / 2] as u64;
-            count = count + 1;
+            total += rights[node / 2] as u64;
+            count += 1;
         }
         node = SLOTS + node / 2;
     }
-    Walked {
-        total: total,
-        count: count,
-    }
+    Walked { total, count }
 }
 
 // Each right-hand sum that the way up from slot s reaches from the right changes by c, modulo 2^32; nothing where s is no
@@ -58,10 +49,10 @@ pub fn change(rights: &mut [u32; RIGHTS], s: usize, c: u32)
         return;
     }
     let mut node = s;
-    while node < ROOT {
+    for _level in 0..LEVELS {
         let right = node % 2 != 0;
         if right {
-            rights[node / 2] = std::num::wrapping_add_u32(rights[node / 2], c);
+            rights[node / 2] = rights[node / 2].wrapping_add(c);
         }
         node = SLOTS + node / 2;
     }
@@ -71,15 +62,9 @@ pub fn change(rights: &mut [u32; RIGHTS], s: usize, c: u32)
 pub fn front(v: usize) -> [u32; RIGHTS]
     ensures { result ≡ rights_of levels (first_marks v) }
 {
-    let mut n = v;
-    if SLOTS < n {
-        n = SLOTS;
-    }
     let mut out = [0u32; RIGHTS];
-    let mut i: usize = 0;
-    while i < n {
+    for i in 0..v.min(SLOTS) {
         change(&mut out, i, 1);
-        i = i + 1;
     }
     out
 }
@@ -88,10 +73,7 @@ pub fn front(v: usize) -> [u32; RIGHTS]
 fn remaining(total: u32, less: u64) -> u32
     ensures { result ≡ total - less }
 {
-    if less < total as u64 {
-        return total - less as u32;
-    }
-    0
+    (total as u64).saturating_sub(less) as u32
 }
 
 // The mark of slot s, worked out along its way up alone: to the first point that it reaches from the right, or to the root;
@@ -99,20 +81,17 @@ fn remaining(total: u32, less: u64) -> u32
 pub fn mark_at(count: u32, rights: &[u32], s: usize) -> u32
     ensures { result ≡ mark_at count rights.now s }
 {
-    if rights.len() != RIGHTS {
-        return 0;
-    }
-    if SLOTS <= s {
+    if rights.len() != RIGHTS || SLOTS <= s {
         return 0;
     }
     let mut less: u64 = 0;
     let mut node = s;
-    while node < ROOT {
+    for _level in 0..LEVELS {
         let sum = rights[node / 2];
         if node % 2 == 1 {
             return remaining(sum, less);
         }
-        less = less + sum as u64;
+        less += sum as u64;
         node = SLOTS + node / 2;
     }
     remaining(count, less)
@@ -125,9 +104,7 @@ fn spread(marks: &mut [u32], m: usize, rights: &[u32]) -> bool
     ensures { (result ≡ none_above rights.now (take m marks.old)) × (marks.new ≡ children (take m marks.old) rights.now ++ drop (m + m) marks.old) }
 {
     let mut good = true;
-    let mut i = m;
-    while 0 < i {
-        i = i - 1;
+    for i in (0..m).rev() {
         let total = marks[i];
         let sum = rights[i];
         let over = total < sum;
@@ -146,21 +123,14 @@ fn spread(marks: &mut [u32], m: usize, rights: &[u32]) -> bool
 pub fn work_out(count: u32, rights: &[u32], marks: &mut [u32]) -> bool
     ensures { (result ≡ (worked_out count rights.now marks.old).within) × (marks.new ≡ (worked_out count rights.now marks.old).marks) }
 {
-    if rights.len() != RIGHTS {
-        return false;
-    }
-    if marks.len() != SLOTS {
+    if rights.len() != RIGHTS || marks.len() != SLOTS {
         return false;
     }
     marks[0] = count;
     let mut within = true;
-    let mut m: usize = 1;
-    while m < SLOTS {
-        let good = spread(marks, m, &rights[SLOTS - 2 * m..SLOTS - m]);
-        if !good {
-            within = false;
-        }
-        m = 2 * m;
+    for level in 0..LEVELS {
+        let m = 1usize << level;
+        within &= spread(marks, m, &rights[SLOTS - 2 * m..SLOTS - m]);
     }
     within
 }

@@ -1,36 +1,34 @@
 -- Laws of a row that a loop tests: whether it is tidy.
-use mathlib.Core.Path.{◌≡◌, ◌∙◌}
-use mathlib.Core.List.{List, ◌∷◌}
-use mathlib.Core.Bool.{false, or-true}
-use Prim.Native.Nat.{ℕ, ◌+◌, ◌<◌}
-use native.Mathlib.Omega.{arith}
-use native.Mathlib.Numerals.{add-one}
-use lib.ListN.{length, drop, get_or}
-use lib.Seq.{drop-cons}
-use borrow.Author.Tests.{eq-eqb, ne_eqb, le-leb, lt-leb}
+use Rattle.std.proofs.Common.{◌≡◌, ℕ, zero, suc, ◌+◌, ◌<◌, Bool, true, false, ◌&&◌, ◌||◌, eqb, leb, List, [], ◌∷◌, length, get_or, drop, refl, sym, ap, ◌∙◌, arith, add-one, drop-cons, drop_of_length-le, ne_eqb}
+use mathlib.Core.Bool.{and_assoc}
+use borrow.Author.Tests.{lt-leb}
 use Rattle.session_marks.specs.Marks.{tidy}
+use Rattle.reuse_rows.proofs.Slices.{Passing, ended}
 
-module _ (N : ℕ) (ms xs : List ℕ) (i : ℕ) (h : i < N) (w : length ms ≡ N) (v : length xs ≡ N) where
-  -- the test, by one slot and the rest
-  row_step : tidy (drop i ms) (drop i xs) ≡ tidy (get_or ms i 0 ∷ drop (i + 1) ms) (get_or xs i 0 ∷ drop (i + 1) xs)
-  row_step = rw (add-one, drop-cons ms i 0 (omega arith), drop-cons xs i 0 (omega arith))
+-- a mark is 0 or 1, and 1 or beside a slot that passes: it is 1, or 0 beside such a slot
+fits-same : (m : ℕ) (bare : Bool) → leb m 1 && (eqb m 1 || bare) ≡ eqb m 1 || (eqb m 0 && bare)
+fits-same zero bare = refl
+fits-same (suc zero) bare = refl
+fits-same (suc (suc m)) bare = simp (lt-leb (suc (suc m)) 1 (omega arith), ne_eqb (suc (suc m)) 1 (λ e. omega arith), ne_eqb (suc (suc m)) 0 (λ e. omega arith))
 
-  -- a mark that is neither 1 nor 0
-  pub tidy-large : (get_or ms i 0 ≡ 1 → ⊥) → (get_or ms i 0 ≡ 0 → ⊥) → tidy (drop i ms) (drop i xs) ≡ false
+module _ (ms xs : List ℕ) (good : Bool) (i : ℕ) (p : Passing good (tidy (drop i ms) (drop i xs)) (tidy ms xs)) where
+  -- one slot more
+  pub tidy-turn : i < length ms → i < length xs
+      → Passing (good && (eqb (get_or ms i 0) 1 || (eqb (get_or ms i 0) 0 && eqb (get_or xs i 0) 0))) (tidy (drop (i + 1) ms) (drop (i + 1) xs)) (tidy ms xs)
   unfolding tidy
-  tidy-large n z = row_step ∙ simp (lt-leb (get_or ms i 0) 1 (omega arith))
+  tidy-turn h g =
+      let m = get_or ms i 0 in
+      let bare = eqb (get_or xs i 0) 0 in
+      let rest = tidy (drop (i + 1) ms) (drop (i + 1) xs) in
+      and_assoc good (eqb m 1 || (eqb m 0 && bare)) rest
+      ∙ ap (λ (b : Bool). good && (b && rest)) (sym (fits-same m bare))
+      ∙ ap (λ (b : Bool). good && b) (sym row_step)
+      ∙ p
+    where
+      row_step : tidy (drop i ms) (drop i xs) ≡ tidy (get_or ms i 0 ∷ drop (i + 1) ms) (get_or xs i 0 ∷ drop (i + 1) xs)
+      row_step = rw (add-one, drop-cons ms i 0 h, drop-cons xs i 0 g)
 
-  -- an extent without a mark
-  pub tidy-stray : get_or ms i 0 ≡ 0 → (get_or xs i 0 ≡ 0 → ⊥) → tidy (drop i ms) (drop i xs) ≡ false
+  -- all slots
+  pub tidy-all : length ms ≡ i → good ≡ tidy ms xs
   unfolding tidy
-  tidy-stray e n = row_step ∙ simp (le-leb (get_or ms i 0) 1 (omega arith), ne_eqb (get_or ms i 0) 1 (λ q. omega arith), ne_eqb (get_or xs i 0) 0 n)
-
-  -- a slot without a mark that holds 0
-  pub tidy-bare : get_or ms i 0 ≡ 0 → get_or xs i 0 ≡ 0 → tidy (drop i ms) (drop i xs) ≡ tidy (drop (i + 1) ms) (drop (i + 1) xs)
-  unfolding tidy
-  tidy-bare e n = row_step ∙ simp (le-leb (get_or ms i 0) 1 (omega arith), eq-eqb (get_or xs i 0) 0 n, or-true)
-
-  -- a marked slot
-  pub tidy-kept : get_or ms i 0 ≡ 1 → tidy (drop i ms) (drop i xs) ≡ tidy (drop (i + 1) ms) (drop (i + 1) xs)
-  unfolding tidy
-  tidy-kept e = row_step ∙ simp (le-leb (get_or ms i 0) 1 (omega arith), eq-eqb (get_or ms i 0) 1 e)
+  tidy-all e = ended good p (ap (λ (l : List ℕ). tidy l (drop i xs)) (drop_of_length-le ms {i = i} (omega arith)))

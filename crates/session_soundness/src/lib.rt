@@ -10,49 +10,33 @@ ghost use Rattle.session_soundness.specs.Soundness.{Wide, marks_hold, sound_rows
 use reuse::{MAX_EXTENTS, MAX_READS, RIGHTS, SLOTS};
 
 // Whether each mark is 0 or 1, and each slot without a mark 0.
-fn neat<'a>(slots: &'a [u32], marks: &'a [u32]) -> bool
+fn neat(slots: &[u32], marks: &[u32]) -> bool
     requires { (length slots.now ≡ slot_count) × (length marks.now ≡ slot_count) }
     ensures { result ≡ tidy marks.now slots.now }
 {
     let mut good = true;
-    let mut i: usize = 0;
-    while i < SLOTS {
-        let mark = marks[i];
-        let x = slots[i];
-        if mark != 1 {
-            let large = mark != 0;
-            if large {
-                good = false;
-            } else if x != 0 {
-                good = false;
-            }
-        }
-        i = i + 1;
+    for (i, &mark) in marks.iter().enumerate() {
+        let bare = (mark == 0) & (slots[i] == 0);
+        good &= (mark == 1) | bare;
     }
     good
 }
 
 // The part of the test that is of the marks: below next, and tidy.
-fn marks_hold<'a>(slots: &'a [u32], marks: &'a [u32], next: usize) -> bool
+fn marks_hold(slots: &[u32], marks: &[u32], next: usize) -> bool
     requires { (length slots.now ≡ slot_count) × (length marks.now ≡ slot_count) }
     ensures { result ≡ marks_hold slots.now marks.now next }
 {
-    if SLOTS < next {
-        return false;
-    }
-    if !neat(slots, marks) {
-        return false;
-    }
-    reuse_rows::all_zero(&marks[next..])
+    next <= SLOTS && neat(slots, marks) && reuse_rows::all_zero(&marks[next..])
 }
 
 // The test of rows of the right length: the marks, of which there are as many as the count, the other counts, and the same
 // extents in the slots and in F.
-fn rows_hold<'a>(
-    first: &'a [u32],
-    hist: &'a [u32],
-    slots: &'a [u32],
-    marks: &'a [u32],
+fn rows_hold(
+    first: &[u32],
+    hist: &[u32],
+    slots: &[u32],
+    marks: &[u32],
     count: u32,
     next: usize,
     reads: u32,
@@ -88,12 +72,12 @@ fn rows_hold<'a>(
 
 // Whether the rows are as long as a session's and sound: the marks are worked out from the count and the right-hand sums,
 // and all else is tested beside them.
-pub fn intact<'a>(
-    first: &'a [u32],
-    hist: &'a [u32],
-    slots: &'a [u32],
+pub fn intact(
+    first: &[u32],
+    hist: &[u32],
+    slots: &[u32],
     count: u32,
-    rights: &'a [u32],
+    rights: &[u32],
     next: usize,
     reads: u32,
 ) -> bool

@@ -44,18 +44,15 @@ module _ (w : List ℕ) (g : Whole w) where
     few = omega (arith, c.inside, g.few)
 
     -- the misses of one size less
-    one_less : (get_or row s 0 + get_or w (2 + 2 * get_or w 1 0 + s - 1) 0) % 2 ^ 32 ≡ misses_of w (s - 1) % 2 ^ 32
+    one_less : (get_or row (s - 1 + 1) 0 + get_or w (2 + 2 * get_or w 1 0 + (s - 1)) 0) % 2 ^ 32 ≡ misses_of w (s - 1) % 2 ^ 32
     one_less =
-        let e : suc (s - 1) ≡ s = omega arith in
-        let p : 2 + 2 * get_or w 1 0 + s - 1 ≡ 2 + 2 * get_or w 1 0 + (s - 1) = omega arith in
-        let q : get_or w (2 + 2 * get_or w 1 0 + s - 1) 0 ≡ get_or (counts_of w) (s - 1) 0 =
-        ap (λ (i : ℕ). get_or w i 0) p ∙ sym (count_at_lem (s - 1) (omega (arith, c.inside))) in
+        let e : s - 1 + 1 ≡ s = omega arith in
         let m : misses_of w (s - 1) ≡ misses_of w s + get_or (counts_of w) (s - 1) 0 =
-        (let d : misses_of w (suc (s - 1)) ≡ misses_of w s = ap (misses_of w) e in omega (arith, misses-step w (s - 1))) in
-        rw (c.each s (omega arith) few, q, m) (word-add (misses_of w s) (get_or (counts_of w) (s - 1) 0))
+        (let d : misses_of w (suc (s - 1)) ≡ misses_of w s = ap (misses_of w) (let q : suc (s - 1) ≡ s = omega arith in q) in omega (arith, misses-step w (s - 1))) in
+        rw (e, c.each s (omega arith) few, sym (count_at_lem (s - 1) (omega (arith, c.inside))), m) (word-add (misses_of w s) (get_or (counts_of w) (s - 1) 0))
 
     -- one size less
-    pub counted-turn : (x : ℕ) → x ≡ (get_or row s 0 + get_or w (2 + 2 * get_or w 1 0 + s - 1) 0) % 2 ^ 32 → Counted w (set row (s - 1) x) (s - 1)
+    pub counted-turn : (x : ℕ) → x ≡ (get_or row (s - 1 + 1) 0 + get_or w (2 + 2 * get_or w 1 0 + (s - 1)) 0) % 2 ^ 32 → Counted w (set row (s - 1) x) (s - 1)
     counted-turn x d = record {
       long = length-set row (s - 1) x ∙ c.long;
       inside = omega (arith, c.inside);

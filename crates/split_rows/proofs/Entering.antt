@@ -60,19 +60,6 @@ fit-passes w least low store costs table f =
       le-leb (rooms + rooms) table f.table-long,
     )
 
--- where one does not hold the test fails
-pub not-fit : (w : List ℕ) (least low store costs table : ℕ) → (Fit w least low store costs table → ⊥) → false ≡ enterable w least low store costs table
-not-fit w least low store costs table h =
-    by-test (enterable w least low store costs table) (λ e. absurd (h (fit w least low store costs table e))) (λ e. sym e)
-
--- where all others hold the last decides
-pub fit-last : (w : List ℕ) (least low store costs table : ℕ) → (rooms + rooms ≤ table → Fit w least low store costs table)
-    → leb (rooms + rooms) table ≡ enterable w least low store costs table
-fit-last w least low store costs table h =
-    by-test (leb (rooms + rooms) table)
-    (λ e. e ∙ sym (fit-passes w least low store costs table (h (leb-true (rooms + rooms) table e))))
-    (λ e. e ∙ not-fit w least low store costs table (λ f. let l : table < rooms + rooms = leb-false (rooms + rooms) table e in omega (arith, f.table-long)))
-
 -- what does not fit leaves the rows as they were
 pub entered-not : (w : List ℕ) (least low store : ℕ) (costs table : List ℕ) → enterable w least low store (length costs) (length table) ≡ false
     → entered_rows w least low store costs table ≡ record { costs = costs; table = table }

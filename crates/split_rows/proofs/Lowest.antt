@@ -1,28 +1,15 @@
--- How far the search for the least of a run has come.
-use Rattle.std.proofs.Common.{◌≡◌, ℕ, suc, ◌+◌, ◌<◌, ◌≤◌, min, ap, ◌∙◌, arith}
+-- The least of a run: one place more.
+use Rattle.std.proofs.Common.{◌≡◌, ℕ, suc, ◌+◌, ◌-◌, ◌≤◌, min, ap, ◌∙◌, arith}
 use Rattle.split_calls.specs.Tables.{lowest}
 use Rattle.split_calls.proofs.Steps.{lowest-snoc}
 
--- the least of the places up to i
-pub record Scan (f : ℕ → ℕ) (tries i least : ℕ) : Type 0 where
-  pub far : i ≤ tries
-  pub lowest-so-far : least ≡ lowest f 0 i
+-- as many places are as many
+pub lowest_upto : (f : ℕ → ℕ) (i j least : ℕ) → least ≡ lowest f 0 i → i ≡ j → least ≡ lowest f 0 j
+lowest_upto f i j least e q = e ∙ ap (lowest f 0) q
 
--- the first place alone
-pub scan-start : (f : ℕ → ℕ) (tries least : ℕ) → least ≡ f 0 → Scan f tries 0 least
-unfolding lowest
-scan-start f tries least e = record { far = omega arith; lowest-so-far = e }
-
--- one place more
-pub scan-turn : (f : ℕ → ℕ) (tries i least more : ℕ) → Scan f tries i least → i < tries → more ≡ min least (f (i + 1)) → Scan f tries (i + 1) more
-scan-turn f tries i least more s l e = record {
-  far = omega (arith, s.far);
-  lowest-so-far =
-      let p : i + 1 ≡ suc i = omega arith in
-      let q : f (0 + suc i) ≡ f (i + 1) = ap f (let d : 0 + suc i ≡ i + 1 = omega arith in d) in
-      omega (arith, s.lowest-so-far, ap (lowest f 0) p, lowest-snoc f 0 i);
-}
-
--- all places
-pub scan-end : (f : ℕ → ℕ) (tries i least : ℕ) → Scan f tries i least → tries ≤ i → least ≡ lowest f 0 tries
-scan-end f tries i least s h = let e : i ≡ tries = omega (arith, s.far) in s.lowest-so-far ∙ ap (lowest f 0) e
+-- the least of the places before i, and place i
+pub lowest-turn : (f : ℕ → ℕ) (i j least more : ℕ) → 1 ≤ i → least ≡ lowest f 0 (i - 1) → more ≡ min least (f i) → i ≡ j → more ≡ lowest f 0 j
+lowest-turn f i j least more h e m q =
+    let p : suc (i - 1) ≡ i = omega arith in
+    let d : f (0 + suc (i - 1)) ≡ f i = ap f (let d : 0 + suc (i - 1) ≡ i = omega arith in d) in
+    lowest_upto f i j more (omega (arith, e, ap (lowest f 0) p, lowest-snoc f 0 (i - 1))) q

@@ -17,10 +17,7 @@ pub const ROOMS: usize = MAX_STORE + 1;
 pub fn smaller(a: usize, b: usize) -> usize
     ensures { result ≡ min a b }
 {
-    if a < b {
-        return a;
-    }
-    b
+    a.min(b)
 }
 
 // The misses of a summary's words at each size: running sums of H from its end.
@@ -31,11 +28,8 @@ fn misses_row(words: &[u32]) -> [u32; SIZES]
     let v = words[1] as usize;
     let counts = 2 + 2 * v;
     let mut row = [words[1]; SIZES];
-    let mut s = v;
-    while 0 < s {
-        let saved = words[counts + s - 1];
-        row[s - 1] = std::num::wrapping_add_u32(row[s], saved);
-        s = s - 1;
+    for s in (0..v).rev() {
+        row[s] = row[s + 1].wrapping_add(words[counts + s]);
     }
     row
 }
@@ -45,14 +39,9 @@ fn least_sum(own: &[u32], others: &[u32], left: usize, tries: usize) -> u32
     requires { Tries own.now others.now left tries }
     ensures { result ≡ lowest (pair_sum own.now others.now left) 0 tries }
 {
-    let mut least = std::num::wrapping_add_u32(own[0], others[left]);
-    let mut i: usize = 0;
-    while i < tries {
-        i = i + 1;
-        let m = std::num::wrapping_add_u32(own[i], others[left - i]);
-        if m < least {
-            least = m;
-        }
+    let mut least = own[0].wrapping_add(others[left]);
+    for i in 1..=tries {
+        least = least.min(own[i].wrapping_add(others[left - i]));
     }
     least
 }
@@ -63,11 +52,9 @@ fn fill(own: &[u32], span: usize, least: usize, low: usize, store: usize, table:
     requires { Fillable own.now span least low store table.old }
     ensures { table.new ≡ filled_row own.now span least low store table.old }
 {
-    let mut t = low;
-    while t <= store {
-        let tries = smaller(t - low, span);
+    for t in low..=store {
+        let tries = (t - low).min(span);
         table[t] = least_sum(own, &table[ROOMS..], t - least, tries);
-        t = t + 1;
     }
 }
 
@@ -79,25 +66,13 @@ fn fits(words: &[u32], least: usize, low: usize, store: usize, costs: usize, tab
         return false;
     }
     let v = words[1] as usize;
-    if MAX_EXTENTS < v {
-        return false;
-    }
-    if words.len() < 2 + 3 * v {
-        return false;
-    }
-    if low < least {
-        return false;
-    }
-    if store < low {
-        return false;
-    }
-    if MAX_STORE < store {
-        return false;
-    }
-    if costs < SIZES {
-        return false;
-    }
-    ROOMS + ROOMS <= table
+    v <= MAX_EXTENTS
+        && 2 + 3 * v <= words.len()
+        && least <= low
+        && low <= store
+        && store <= MAX_STORE
+        && SIZES <= costs
+        && ROOMS + ROOMS <= table
 }
 
 // One customer more before the others: its misses at the front of `costs`, and the row of it and them at the front of the table.
@@ -118,6 +93,6 @@ pub fn enter(
     let own = misses_row(words);
     reuse_copies::put(costs, 0, &own);
     let v = words[1] as usize;
-    let base = smaller(least, v);
+    let base = least.min(v);
     fill(&own[base..], v - base, least, low, store, table);
 }

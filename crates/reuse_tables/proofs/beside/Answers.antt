@@ -1,4 +1,4 @@
--- `reuse_tables::beside` meets its contract. The invariant is `Besides`.
+-- `reuse_tables::beside` meets its contract.
 use mathlib.Core.Path.{sym, ◌∙◌}
 use native.Mathlib.Omega.{arith}
 use Rattle.reuse_copies.proofs.Padding.{padded-wide}
@@ -7,18 +7,15 @@ use Rattle.reuse_tables.proofs.Besides.{beside-start, beside-more, beside-known,
 use Rattle.reuse_tables.proofs.beside.Goals as goal
 use Rattle.reuse_tables.proofs.beside.Goals.{then-not-known+else-n-ge-MAX_EXTENTS, else-not-known}
 
-pub loop-i-init : goal.loop-i-init
-loop-i-init c = beside-start _ _ _ c.padded-row.ensures (rw c.padded-row.ensures (padded-wide _))
+pub loop-x-init : goal.loop-x-init
+loop-x-init c = beside-start _ _ _ c.padded-row.ensures (rw c.padded-row.ensures (padded-wide _))
 
 pub returns-then-n-ge-MAX_EXTENTS : goal.returns-then-n-ge-MAX_EXTENTS
-returns-then-n-ge-MAX_EXTENTS c = beside-full _ _ _ _ _ c.loop-i.invariant (omega arith)
+returns-then-n-ge-MAX_EXTENTS c = beside-full _ _ _ _ _ c.loop-x.invariant (omega arith)
 
-pub bounds-row-n : goal.bounds-row-n
-bounds-row-n c = omega arith
-
-pub loop-i-preserved : goal.loop-i-preserved
-loop-i-preserved c =
-    let h = c.loop-i.invariant in
+pub loop-x-preserved : goal.loop-x-preserved
+loop-x-preserved c =
+    let h = c.loop-x.invariant in
     let e = c.known.ensures ∙ looked-up _ _ _ c.note.ensures in
     elim c.if-not-known.branch [
       | then-not-known+else-n-ge-MAX_EXTENTS w ↦ rw (w.row-is, w.n-is) (beside-more _ _ _ _ _ h (omega arith) (sym e ∙ w.if-not-known.true) (omega (arith, w.if-n-ge-MAX_EXTENTS.false)))
@@ -26,4 +23,4 @@ loop-i-preserved c =
     ]
 
 pub returns : goal.returns
-returns c = beside_end _ _ _ _ _ c.loop-i.invariant (omega arith)
+returns c = beside_end _ _ _ _ _ c.loop-x.invariant (omega arith)

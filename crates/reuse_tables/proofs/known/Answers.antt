@@ -5,4 +5,4 @@ use Rattle.reuse_tables.proofs.known.Goals as goal
 
 pub returns : goal.returns
 unfolding looked_up
-returns c = c.stands.ensures ∙ rw c.bucket-h.ensures.0
+returns c = c.stands.ensures ∙ rw c.bucket.ensures.0

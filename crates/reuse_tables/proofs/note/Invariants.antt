@@ -1,10 +1,6 @@
 -- `reuse_tables::note` meets its contract. The invariant is `Noting`.
-use Prim.Native.Nat.{◌-◌}
 use Rattle.reuse_tables.proofs.Lookups.{Noting}
 use Rattle.reuse_tables.proofs.note.Given as goal
 
 abbrev pub invariant-loop-i : goal.invariant-loop-i
-invariant-loop-i l = Noting l.words l.n l.table l.i
-
-abbrev pub decreases-loop-i : goal.decreases-loop-i
-decreases-loop-i l = l.n - l.i
+invariant-loop-i l = Noting l.words l.noted l.table l.i

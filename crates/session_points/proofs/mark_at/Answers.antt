@@ -1,33 +1,32 @@
--- `session_points::mark_at` meets its contract. The invariant is `Marking`: the total of the node that the way has come to, less what is to be taken off, is the mark.
 use Rattle.std.proofs.Common.{◌/◌, sym, ◌∙◌, arith}
-use Rattle.session_points.proofs.Ups.{slot-other, slot-past}
-use Rattle.session_points.proofs.Marking.{mark-none, marking-start, marking-turn, marking-fits, marking-end}
+use Rattle.session_points.proofs.Ups.{slot_none}
+use Rattle.session_points.proofs.Marking.{mark-none, marking-start, marking-turn, marking-point, marking-fits, marking-end}
 use Rattle.session_points.proofs.mark_at.Goals as goal
 
 pub returns-then-rights-ne-RIGHTS : goal.returns-then-rights-ne-RIGHTS
-returns-then-rights-ne-RIGHTS c = sym (mark-none _ _ _ (slot-other _ _ c.if-rights-ne-RIGHTS.true))
+returns-then-rights-ne-RIGHTS c = sym (mark-none _ _ _ (slot_none _ _ c.then-rights-ne-RIGHTS.either))
 
-pub returns-then-s-ge-SLOTS : goal.returns-then-s-ge-SLOTS
-returns-then-s-ge-SLOTS c = sym (mark-none _ _ _ (slot-past _ _ c.if-s-ge-SLOTS.true))
+pub loop-level-init : goal.loop-level-init
+loop-level-init c = marking-start _ _ _ c.if-rights-ne-RIGHTS.false c.if-s-ge-SLOTS.false
 
-pub loop-node-init : goal.loop-node-init
-loop-node-init c = marking-start _ _ _ c.if-rights-ne-RIGHTS.false c.if-s-ge-SLOTS.false
+pub offset_bounds-rights-node : goal.offset_bounds-rights-node
+offset_bounds-rights-node c = omega (arith, marking-point _ _ _ _ _ _ _ (omega arith) c.loop-level.invariant)
+
+pub bounds-rights-node : goal.bounds-rights-node
+bounds-rights-node c = omega (arith, marking-point _ _ _ _ _ _ _ (omega arith) c.loop-level.invariant)
 
 pub returns-then-node-eq1 : goal.returns-then-node-eq1
-returns-then-node-eq1 c = c.remaining.ensures ∙ (marking-turn _ _ _ _ _ _ c.loop-node.invariant (omega arith)).0 c.if-node-eq1.true
-
-pub overflow_cast-less : goal.overflow_cast-less
-overflow_cast-less c = omega (arith, c.type_inv.rights (c.loop-node.node / 2))
+returns-then-node-eq1 c = c.remaining.ensures ∙ (marking-turn _ _ _ _ _ _ _ (omega arith) c.loop-level.invariant).0 c.if-node-eq1.true
 
 pub overflow_add-less : goal.overflow_add-less
 overflow_add-less c =
-    let l = c.loop-node in
-    omega (arith, c.type_inv.rights (l.node / 2), marking-fits _ _ _ _ _ _ l.invariant (omega arith))
+    let l = c.loop-level in
+    omega (arith, c.type_inv.rights (l.node / 2), marking-fits _ _ _ _ _ _ _ (omega arith) l.invariant)
 
-pub loop-node-preserved : goal.loop-node-preserved
-loop-node-preserved c =
-    let l = c.loop-node in
-    (marking-turn _ _ _ _ _ _ l.invariant (omega arith)).1 c.if-node-eq1.false (c.type_inv.rights (l.node / 2)).fits
+pub loop-level-preserved : goal.loop-level-preserved
+loop-level-preserved c =
+    let l = c.loop-level in
+    (marking-turn _ _ _ _ _ _ _ (omega arith) l.invariant).1 c.if-node-eq1.false (c.type_inv.rights (l.node / 2)).fits
 
 pub returns : goal.returns
-returns c = c.remaining-2.ensures ∙ marking-end _ _ _ _ _ _ c.loop-node.invariant (omega arith)
+returns c = c.remaining-2.ensures ∙ marking-end _ _ _ _ _ _ _ (omega arith) c.loop-level.invariant

@@ -1,13 +1,8 @@
 -- `session_soundness::neat` meets its contract. The invariant: no fault yet, and none in the rest, is what the test says.
-use Prim.Native.Nat.{◌-◌, ◌≤◌}
-use lib.ListN.{drop}
-use Rattle.reuse.specs.Limits.{slot_count}
+use Rattle.std.proofs.Common.{drop}
 use Rattle.session_marks.specs.Marks.{tidy}
 use Rattle.reuse_rows.proofs.Slices.{Passing}
 use Rattle.session_soundness.proofs.neat.Given as goal
 
 abbrev pub invariant-loop-i : goal.invariant-loop-i
-invariant-loop-i l = (l.i ≤ slot_count) × Passing l.good (tidy (drop l.i l.marks) (drop l.i l.slots)) (tidy l.marks l.slots)
-
-abbrev pub decreases-loop-i : goal.decreases-loop-i
-decreases-loop-i l = slot_count - l.i
+invariant-loop-i l = Passing l.good (tidy (drop l.i l.marks) (drop l.i l.slots)) (tidy l.marks l.slots)

@@ -27,23 +27,23 @@ pub overflow_cast-v : goal.overflow_cast-v
 overflow_cast-v c = record { fits = omega (arith, (known (goal.at.overflow_cast-v c).Else-not-fits).few) }
 
 pub offset_bounds-own-base : goal.offset_bounds-own-base
-offset_bounds-own-base c = record { fits = omega (arith, c.smaller-base.ensures, (known (goal.at.offset_bounds-own-base c).Else-not-fits).few) }
+offset_bounds-own-base c = record { fits = omega (arith, c.min-base.ensures, (known (goal.at.offset_bounds-own-base c).Else-not-fits).few) }
 
 pub slice_bounds-fill-count : goal.slice_bounds-fill-count
-slice_bounds-fill-count c = omega (arith, c.smaller-base.ensures, (known (goal.at.slice_bounds-fill-count c).Else-not-fits).few)
+slice_bounds-fill-count c = omega (arith, c.min-base.ensures, (known (goal.at.slice_bounds-fill-count c).Else-not-fits).few)
 
 pub slice_bounds-fill-start : goal.slice_bounds-fill-start
-slice_bounds-fill-start c = omega (arith, c.smaller-base.ensures, (known (goal.at.slice_bounds-fill-start c).Else-not-fits).few)
+slice_bounds-fill-start c = omega (arith, c.min-base.ensures, (known (goal.at.slice_bounds-fill-start c).Else-not-fits).few)
 
 pub fill-requires : goal.fill-requires
 fill-requires c =
     let a = c.args in
-    rw c.misses_row-own.ensures (fit-fillable _ _ _ _ a.costs.now _ (known (goal.at.fill-requires c).Else-not-fits) _ c.smaller-base.ensures)
+    rw c.misses_row-own.ensures (fit-fillable _ _ _ _ a.costs.now _ (known (goal.at.fill-requires c).Else-not-fits) _ c.min-base.ensures)
 
 pub returns : goal.returns
 returns c =
     let a = c.args in
     let f = known (goal.at.returns c).Else-not-fits in
-    let b = c.smaller-base.ensures in
+    let b = c.min-base.ensures in
     let e = fit-entered a.words.now a.least a.low a.store a.costs.now a.table.now f _ b in
     let m = c.misses_row-own.ensures in record { costs = rw m at c.put.ensures ∙ placed-fits _ _ _ (fit-costs a.words.now a.least a.low a.store a.costs.now a.table.now f _ b) ∙ ap (λ (r : Rows). r.costs) (sym e); table = rw m at c.fill.ensures ∙ ap (λ (r : Rows). r.table) (sym e) }

@@ -1,10 +1,6 @@
 -- `split_rows::fill` meets its contract. The invariant is `Filling`: the rooms before t have their entries.
 use Rattle.split_rows.proofs.Filling.{Filling}
-use Rattle.std.proofs.Common.{◌+◌, ◌-◌}
 use Rattle.split_rows.proofs.fill.Given as goal
 
 abbrev pub invariant-loop-t : goal.invariant-loop-t
 invariant-loop-t l = Filling l.own l.span l.least l.low l.store l.initial.table l.table l.t
-
-abbrev pub decreases-loop-t : goal.decreases-loop-t
-decreases-loop-t l = l.store + 1 - l.t
