@@ -20,3 +20,4 @@ pub mod Examples
 pub mod Signed
 pub mod Tests
 pub mod Numbers
+pub mod Told

@@ -1,9 +1,7 @@
 -- A session as words: what the first words of a row stand for, and the words of a session.
-use Rattle.std.specs.Prelude.{ℕ, ◌+◌, cond, List, [], ◌∷◌, ◌++◌, leb, length, take, drop, get_or}
+use Rattle.std.specs.Prelude.{ℕ, ◌+◌, cond, List, [], ◌∷◌, ◌++◌, leb, length, take, drop, get_or, Option, Some, None}
 use Rattle.reuse.specs.Limits.{max_extents, slot_count, right_count}
 use Rattle.session.specs.declared.Session.{Session}
-use Rattle.session.specs.Sessions.{fresh}
-use Rattle.session_layout.specs.declared.Kept.{Kept}
 
 -- where F, H, the slots, the count, the right-hand sums and the next slot stand, after the reads
 abbrev pub first_place : ℕ
@@ -44,12 +42,9 @@ session_in w = record {
   next = get_or w next_place 0;
 }
 
--- whether the words are enough for a session, and the session in the first of them; a new one where they are too few
-unfoldable pub kept_in : List ℕ → Kept
-kept_in w = record {
-  enough = leb session_length (length w);
-  session = cond (leb session_length (length w)) (session_in w) fresh;
-}
+-- the session in the first of the words, where they are enough for one
+unfoldable pub kept_in : List ℕ → Option Session
+kept_in w = cond (leb session_length (length w)) (Some (session_in w)) None
 
 -- the words of a session: L, F, H, the slots, the count, the right-hand sums, the next slot
 unfoldable pub session_laid : Session → List ℕ

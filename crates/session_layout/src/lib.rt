@@ -23,23 +23,12 @@ const NEXT: usize = RIGHTS + reuse::RIGHTS;
 // The words of a session.
 pub const SESSION: usize = NEXT + 1;
 
-// Whether a row has as many words as a session, and the session in its first words; a new one where it has fewer.
-#[derive(Drop)]
-pub struct Kept {
-    pub enough: bool,
-    pub session: Session,
-}
-
 // The session that stands in the first words, where they are enough.
-pub fn session_in(words: &[u32]) -> Kept
+pub fn session_in(words: &[u32]) -> Option<Session>
     ensures { result ≡ kept_in words.now }
 {
     if words.len() < SESSION {
-        let session = Session::new();
-        return Kept {
-            enough: false,
-            session,
-        };
+        return None;
     }
     let first = reuse_copies::padded(&words[FIRST..HIST]);
     let hist = reuse_copies::padded(&words[HIST..SLOTS]);
@@ -50,7 +39,7 @@ pub fn session_in(words: &[u32]) -> Kept
     let reads = words[0];
     let count = words[COUNT];
     let next = words[NEXT];
-    let session = Session {
+    Some(Session {
         reads,
         first,
         hist,
@@ -58,11 +47,7 @@ pub fn session_in(words: &[u32]) -> Kept
         count,
         rights,
         next,
-    };
-    Kept {
-        enough: true,
-        session,
-    }
+    })
 }
 
 // The session's words are put to the front of the row; where it has fewer words nothing is written.

@@ -1,4 +1,5 @@
 -- The laws of a read: of a sound session, and of one that has read a trace; each is that of the session with all sums.
+use Rattle.reuse.specs.declared.refusals.Refusal.{Refusal}
 use Rattle.reuse.specs.declared.refusals.Refusal.TheVariants.{TooManyReads, TooManyExtents}
 use Prim.Native.Nat.{ℕ, suc, ◌-◌, ◌≤◌, ◌<◌}
 use mathlib.Core.Path.{◌≡◌, sym, ap, subst, ◌∙◌}
@@ -100,10 +101,10 @@ module _ (s : Session) (t : List ℕ) (g : Stands s t) (x : ℕ) where
       ∙ ap new_step (old.read_is o t g.full-stands x)
       ∙ by (eqb (length t) max_reads) (over t x)
     where
-      by : (c d : Bool) → new_step (cond c (full-reads.refused o 8) (cond d (full-reads.refused o 9) (full-reads.step_at (full-reads.roomed o) x (depth (stack t) x))))
+      by : (c d : Bool) → new_step (cond c (full-reads.refused o TooManyReads) (cond d (full-reads.refused o TooManyExtents) (full-reads.step_at (full-reads.roomed o) x (depth (stack t) x))))
           ≡ cond c (refused s TooManyReads) (cond d (refused s TooManyExtents) (step_at (roomed s) x (depth (stack t) x)))
-      by true d = refused-old 8
-      by false true = refused-old 9
+      by true d = refused-old TooManyReads
+      by false true = refused-old TooManyExtents
       by false false = sym (ap (λ (r : FullSession). new_step (full-reads.step_at r x (depth (stack t) x))) (old-roomed s (stands-facts s t g)))
 
   -- a read too many

@@ -24,11 +24,9 @@ pub fn misses(words: &[u32], size: u32) -> Result<u32, Refusal>
 pub fn share(words: &[u32], size: u32) -> Result<HitShare, Refusal>
     ensures { result ≡ share_call words.now size }
 {
-    if !well_formed(words) {
-        return Err(Refusal::NotASummary);
-    }
-    let hits = hits(words, size);
+    let missed = misses(words, size)?;
     let reads = words[0];
+    let hits = reads - missed;
     let servable = reads - words[1];
     Ok(share_of(hits, servable))
 }

@@ -1,4 +1,5 @@
 -- `session_layout::session_in` meets its contract.
+use Rattle.std.specs.Prelude.{Some}
 use mathlib.Core.Path.{sym, ◌∙◌}
 use mathlib.Core.Bool.{true, false}
 use native.Mathlib.Omega.{arith}
@@ -10,16 +11,14 @@ use Rattle.session_layout.proofs.Enough.{kept-short, kept-all}
 use Rattle.session_layout.proofs.session_in.Goals as goal
 
 pub returns-then-words-lt-SESSION : goal.returns-then-words-lt-SESSION
-returns-then-words-lt-SESSION c = (λ i. record { enough = false; session = c.new-session.ensures i }) ∙ sym (kept-short _ c.if-words-lt-SESSION.true)
+returns-then-words-lt-SESSION c = sym (kept-short _ c.if-words-lt-SESSION.true)
 
 pub returns : goal.returns
 unfolding session_in part
 returns c =
     let w = c.args.words.now in
     let l = c.if-words-lt-SESSION.false in
-    (λ i. record {
-      enough = true;
-      session = record {
+    (λ i. Some (record {
         reads = get_or w 0 0;
         first = (c.padded-first.ensures ∙ padded-whole _ (part_length w first_place max_extents (omega (arith, l)))) i;
         hist = (c.padded-hist.ensures ∙ padded-whole _ (part_length w hist_place max_extents (omega (arith, l)))) i;
@@ -27,5 +26,4 @@ returns c =
         count = get_or w count_place 0;
         rights = (c.put-2.ensures ∙ placed-whole _ _ (part_length w rights_place right_count (omega (arith, l)))) i;
         next = get_or w next_place 0;
-      };
-    }) ∙ sym (kept-all w l)
+    })) ∙ sym (kept-all w l)

@@ -1,37 +1,43 @@
--- `summary_counts::share` meets its contract.
-use Rattle.std.specs.Prelude.{Ok}
-use mathlib.Core.Path.{◌≡◌, sym, ap, ◌∙◌}
-use native.Mathlib.Omega.{arith}
-use mathlib.Core.Bool.{true}
-use Rattle.reuse.specs.Summary.{well_formed, reads_of, extents_of, servable_of}
+-- `summary_counts::share` meets its contract: the reads less the misses are the hits.
+use Rattle.std.proofs.Common.{◌≡◌, ◌-◌, ◌≤◌, true, Ok, Err, get_or, sym, ap, ◌∙◌, arith}
+use Rattle.reuse.specs.declared.refusals.Refusal.TheVariants.{NotASummary}
+use Rattle.reuse.specs.Summary.{well_formed, reads_of, extents_of, hits_of, misses_of, servable_of}
 use Rattle.reuse.proofs.Formed.{formed}
-use Rattle.summary_calls.specs.Calls.{share_call}
-use Rattle.summary_calls.proofs.Fields.{given, shaped}
+use Rattle.reuse.proofs.Told.{told, untold, handed_on}
+use Rattle.summary_calls.specs.Calls.{misses_call, share_of, share_call}
+use Rattle.summary_calls.proofs.Fields.{shaped, reads-split}
 use Rattle.summary_counts.proofs.share.Goals as goal
-use Rattle.summary_counts.proofs.share.Goals.{Else-not-well_formed}
+use Rattle.summary_counts.proofs.share.Goals.{In_ok-missed}
 
--- the words are well formed
-pass : (c : Else-not-well_formed) → well_formed c.args.words.now ≡ true
-pass c = sym c.well_formed-2.ensures ∙ c.if-not-well_formed.false
+-- the words are well formed, and these are their misses
+given : (c : In_ok-missed) → (well_formed c.args.words.now ≡ true) × (c.in_ok-missed.missed ≡ misses_of c.args.words.now c.args.size)
+unfolding misses_call
+given c = told _ _ _ NotASummary (sym c.misses.ensures ∙ c.in_ok-missed.was)
 
-pub returns-then-not-well_formed : goal.returns-then-not-well_formed
-unfolding share_call
-returns-then-not-well_formed c = sym (simp (sym c.well_formed-2.ensures ∙ c.if-not-well_formed.true))
+-- the hits are what is left of the reads
+hits : (c : In_ok-missed) → (c.in_ok-missed.missed ≤ get_or c.args.words.now 0 0) × (get_or c.args.words.now 0 0 - c.in_ok-missed.missed ≡ hits_of c.args.words.now c.args.size)
+hits c = let g = given c in let s = reads-split c.args.words.now g.0 c.args.size in (omega (arith, g.1, s), omega (arith, g.1, s))
 
-pub hits-hits-requires : goal.hits-hits-requires
-hits-hits-requires c = given _ (pass c)
+pub returns-in_err-missed : goal.returns-in_err-missed
+unfolding misses_call share_call
+returns-in_err-missed c = let g = untold _ _ NotASummary _ (sym c.misses.ensures ∙ c.in_err-missed.was) in handed_on _ _ c.from_residual.ensures.1 ∙ ap Err g.1 ∙ sym (simp g.0)
 
 pub bounds-words-0 : goal.bounds-words-0
-bounds-words-0 c = omega (arith, (shaped _ (pass (goal.at.bounds-words-0 c).Else-not-well_formed)).long)
+bounds-words-0 c = omega (arith, (shaped _ (given (goal.at.bounds-words-0 c).In_ok-missed).0).long)
+
+pub overflow_sub-hits : goal.overflow_sub-hits
+overflow_sub-hits c = (hits (goal.at.overflow_sub-hits c).In_ok-missed).0
 
 pub bounds-words-1 : goal.bounds-words-1
-bounds-words-1 c = omega (arith, (shaped _ (pass (goal.at.bounds-words-1 c).Else-not-well_formed)).long)
+bounds-words-1 c = omega (arith, (shaped _ (given (goal.at.bounds-words-1 c).In_ok-missed).0).long)
 
 -- each extent has a cold read, which is a read
 pub overflow_sub-servable : goal.overflow_sub-servable
 unfolding reads_of extents_of
-overflow_sub-servable c = omega (arith, (formed _ (pass (goal.at.overflow_sub-servable c).Else-not-well_formed)).total)
+overflow_sub-servable c = omega (arith, (formed _ (given (goal.at.overflow_sub-servable c).In_ok-missed).0).total)
 
 pub returns : goal.returns
 unfolding share_call servable_of reads_of extents_of
-returns c = sym (simp (pass (goal.at.returns c).Else-not-well_formed, ← c.hits-hits.ensures) (ap Ok (sym c.share_of.ensures)))
+returns c =
+    let at = (goal.at.returns c).In_ok-missed in
+    sym (simp ((given at).0, ← (hits at).1) (ap Ok (sym c.share_of.ensures)))
