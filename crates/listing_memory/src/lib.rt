@@ -24,7 +24,7 @@ pub fn list(text: &[u8], out: &mut [u8]) -> Written
             if short {
                 return Written::Refused(6);
             }
-            reuse_copies::put_bytes(out, 0, &bytes[..len]);
+            reuse_copies::put(out, 0, &bytes[..len]);
             Written::Words(len)
         }
     }

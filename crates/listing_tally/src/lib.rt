@@ -158,7 +158,7 @@ pub fn end_line(
         return take_line(rest, phase, reads, extents, stack, counts);
     }
     let mut whole = line;
-    reuse_copies::put_bytes(&mut whole, held, rest);
+    reuse_copies::put(&mut whole, held, rest);
     let n = held + rest.len();
     take_line(&whole[..n], phase, reads, extents, stack, counts)
 }
