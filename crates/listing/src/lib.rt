@@ -39,7 +39,7 @@ fn laid(
     ensures { result ≡ lister_with (take held line) phase (tally_in reads extents stack counts) }
 {
     let mut row = [0u8; listing_tally::LONGEST];
-    reuse_copies::put_bytes(&mut row, 0, &line[..held]);
+    reuse_copies::put(&mut row, 0, &line[..held]);
     let recent = reuse_copies::padded(&stack[..extents]);
     let counted = reuse_copies::padded(&counts[..extents]);
     Lister {

@@ -13,13 +13,12 @@ use Rattle.texts.specs.Words.{word_at, after, run_of, closes_of, ending_of, clos
 use Rattle.texts.specs.Logs.{trace_word, read_word, ending_by, row_of}
 use Rattle.reuse.proofs.Lists.{by-test}
 use Rattle.texts.proofs.Positions.{gone, here, word_fits}
+use Rattle.std.specs.Prelude.{None, Some}
 use Rattle.listing_lines.specs.Forms.{row_found, head_found}
-use Rattle.listing_lines.specs.declared.Row.TheVariants.{Read, Bad}
-use Rattle.listing_lines.specs.declared.Head.TheVariants.{Trace, Bad as BadHead}
 
 module _ (line : List ℕ) where
   -- the first line does not begin with its word
-  pub head-none : false ≡ word_at trace_word line → BadHead ≡ head_found (after trace_word line)
+  pub head-none : false ≡ word_at trace_word line → None ≡ head_found (after trace_word line)
   unfolding after
   head-none t = rw (← t)
 
@@ -34,11 +33,11 @@ module _ (line : List ℕ) where
     head-long = word_fits line 0 trace_word (omega arith) (sym t)
 
     -- nothing stands after it
-    pub head-open : length line ≡ 6 → Trace false ≡ head_found (after trace_word line)
+    pub head-open : length line ≡ 6 → Some false ≡ head_found (after trace_word line)
     head-open e = sym (ap head_found (head-rest ∙ ap some (gone line 6 (omega arith))))
 
     -- more than a byte does
-    pub head_more : (length line ≡ 6 → ⊥) → (length line ≡ 7 → ⊥) → BadHead ≡ head_found (after trace_word line)
+    pub head_more : (length line ≡ 6 → ⊥) → (length line ≡ 7 → ⊥) → None ≡ head_found (after trace_word line)
     head_more f g =
         let m : 8 ≤ length line = omega (arith, head-long) in
         sym (ap head_found (head-rest ∙ ap some (here line 6 (omega arith) ∙ ap (λ (l : List ℕ). get_or line 6 0 ∷ l) (here line 7 (omega arith)))))
@@ -48,11 +47,11 @@ module _ (line : List ℕ) where
     head-one e = head-rest ∙ ap some (here line 6 (omega arith) ∙ ap (λ (l : List ℕ). get_or line 6 0 ∷ l) (gone line 7 (omega arith)))
 
     -- another byte than a bracket
-    pub head-other : length line ≡ 7 → (get_or line 6 0 ≡ 41 → ⊥) → BadHead ≡ head_found (after trace_word line)
+    pub head-other : length line ≡ 7 → (get_or line 6 0 ≡ 41 → ⊥) → None ≡ head_found (after trace_word line)
     head-other e f = sym (ap head_found (head-one e) ∙ rw (ne_eqb (get_or line 6 0) 41 f))
 
     -- a bracket
-    pub head-closed : length line ≡ 7 → get_or line 6 0 ≡ 41 → Trace true ≡ head_found (after trace_word line)
+    pub head-closed : length line ≡ 7 → get_or line 6 0 ≡ 41 → Some true ≡ head_found (after trace_word line)
     head-closed e f = sym (ap head_found (head-one e) ∙ rw (eq-eqb (get_or line 6 0) 41 f))
 
 -- brackets and nothing else are counted
@@ -70,7 +69,7 @@ closes-not (x ∷ l) h = by-test (eqb x 41) (λ e. simp (e, closes-not l (λ q. 
 
 module _ (line : List ℕ) where
   -- the line does not begin with the word of a read
-  pub row-none : false ≡ word_at read_word line → Bad ≡ row_found (row_of line)
+  pub row-none : false ≡ word_at read_word line → None ≡ row_found (row_of line)
   unfolding row_of after
   row-none t = rw (← t)
 
@@ -85,7 +84,7 @@ module _ (line : List ℕ) where
     row-rest = rw (← t)
 
     -- no number does
-    pub row-bad : bad ≡ number_of (drop 7 line) → Bad ≡ row_found (row_of line)
+    pub row-bad : bad ≡ number_of (drop 7 line) → None ≡ row_found (row_of line)
     row-bad e = sym (ap row_found (row-rest ∙ ap (λ v. ending_by (number_by v)) (sym e)))
 
     module _ (n end run : ℕ) (is : value n (drop end line) ≡ number_of (drop 7 line)) (counted : run ≡ run_of (length line - end) 41 (drop end line)) where
@@ -98,7 +97,7 @@ module _ (line : List ℕ) where
       run-left = counted ∙ ap (λ (m : ℕ). run_of m 41 (drop end line)) (sym (length-drop end line))
 
       -- something else than brackets
-      pub row-spoilt : (run ≡ length line - end → ⊥) → Bad ≡ row_found (row_of line)
+      pub row-spoilt : (run ≡ length line - end → ⊥) → None ≡ row_found (row_of line)
       row-spoilt f =
           let q : run_of (length (drop end line)) 41 (drop end line) ≡ length (drop end line) → ⊥ = λ z. f (run-left ∙ z ∙ length-drop end line) in
           sym (ap row_found (row_closes_lem ∙ ap (λ o. ending_by (closes_by n o)) (closes-not (drop end line) q)))
@@ -110,18 +109,18 @@ module _ (line : List ℕ) where
           ap row_found (row_closes_lem ∙ ap (λ o. ending_by (closes_by n o)) (closes-all (drop end line) q ∙ ap some (length-drop end line ∙ e)))
 
       -- one bracket
-      pub row_read : run ≡ length line - end → length line - end ≡ 1 → Read n false ≡ row_found (row_of line)
+      pub row_read : run ≡ length line - end → length line - end ≡ 1 → Some (n, false) ≡ row_found (row_of line)
       row_read f e = sym (row-brackets f 1 e)
 
       -- two
-      pub row_last : run ≡ length line - end → length line - end ≡ 2 → Read n true ≡ row_found (row_of line)
+      pub row_last : run ≡ length line - end → length line - end ≡ 2 → Some (n, true) ≡ row_found (row_of line)
       row_last f e = sym (row-brackets f 2 e)
 
       -- none, or more than two
-      pub row_more : run ≡ length line - end → (length line - end ≡ 1 → ⊥) → (length line - end ≡ 2 → ⊥) → Bad ≡ row_found (row_of line)
+      pub row_more : run ≡ length line - end → (length line - end ≡ 1 → ⊥) → (length line - end ≡ 2 → ⊥) → None ≡ row_found (row_of line)
       row_more f g h = sym (row-brackets f (length line - end) refl ∙ by (length line - end) g h)
         where
-          by : (c : ℕ) → (c ≡ 1 → ⊥) → (c ≡ 2 → ⊥) → row_found (ending_by (closes_by n (some c))) ≡ Bad
+          by : (c : ℕ) → (c ≡ 1 → ⊥) → (c ≡ 2 → ⊥) → row_found (ending_by (closes_by n (some c))) ≡ None
           by zero u v = refl
           by (suc zero) u v = absurd (u refl)
           by (suc (suc zero)) u v = absurd (v refl)

@@ -24,7 +24,7 @@ pub fn list(text: &[u8], out: &mut [u8]) -> Result<usize, Refusal>
             if short {
                 return Err(Refusal::NoRoom);
             }
-            reuse_copies::put_bytes(out, 0, &bytes[..len]);
+            reuse_copies::put(out, 0, &bytes[..len]);
             Ok(len)
         }
     }

@@ -16,7 +16,7 @@ fn put(page: &mut [u8], at: usize, bytes: &[u8]) -> usize
     if page.len() - at < bytes.len() {
         return at;
     }
-    reuse_copies::put_bytes(page, at, bytes);
+    reuse_copies::put(page, at, bytes);
     at + bytes.len()
 }
 

@@ -14,7 +14,7 @@ use Rattle.texts.specs.Words.{after}
 use Rattle.texts.specs.Logs.{trace_word, row_of, longest_line}
 use Rattle.texts.proofs.Tests.{never}
 use Rattle.listing_lines.specs.Forms.{row_found, head_found}
-use Rattle.listing_lines.specs.declared.Row.{Row}
+use Rattle.std.specs.Prelude.{Option}
 use Rattle.listing_tally.specs.declared.Phase.{Phase}
 use Rattle.listing_tally.specs.declared.Phase.TheVariants.{Empty, Inside, Whole, Stopped}
 use Rattle.listing_tally.specs.declared.Progress.{Progress}
@@ -102,7 +102,7 @@ module _ (reads extents : ℕ) (stack counts : List ℕ) where
     line-head e r q = rw (e, q)
 
     -- a line inside the trace
-    pub line_row : phase ≡ Inside → (v : Row) → v ≡ row_found (row_of line) → (s : Standing) → s ≡ row_taken reads extents stack counts v
+    pub line_row : phase ≡ Inside → (v : Option (ℕ × Bool)) → v ≡ row_found (row_of line) → (s : Standing) → s ≡ row_taken reads extents stack counts v
         → s ≡ line_taken reads extents stack counts phase line
     unfolding line_taken
     line_row e v f s q = q ∙ rw (e, f)

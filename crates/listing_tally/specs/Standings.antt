@@ -1,5 +1,5 @@
 -- What a line does to a text taken so far, whatever stands in the rows of its tally.
-use Rattle.std.specs.Prelude.{ℕ, ◌+◌, ◌-◌, Bool, cond, List, ◌++◌, length, take, nat_le, nat_lt, slice_set}
+use Rattle.std.specs.Prelude.{ℕ, ◌+◌, ◌-◌, Bool, cond, Option, None, Some, List, ◌++◌, length, take, nat_le, nat_lt, slice_set}
 use Rattle.reuse.specs.Limits.{max_reads}
 use Rattle.reuse_rows.specs.Rows.{one_more}
 use Rattle.reuse_engine.specs.Engine.{place_of, left_by}
@@ -9,10 +9,6 @@ use Rattle.texts.specs.Limits.{max_extent}
 use Rattle.texts.specs.Words.{after}
 use Rattle.texts.specs.Logs.{trace_word, row_of, longest_line}
 use Rattle.listing_lines.specs.Forms.{row_found, head_found}
-use Rattle.listing_lines.specs.declared.Row.{Row}
-use Rattle.listing_lines.specs.declared.Row.TheVariants.{Read, Bad}
-use Rattle.listing_lines.specs.declared.Head.{Head}
-use Rattle.listing_lines.specs.declared.Head.TheVariants.{Trace, Bad as BadHead}
 use Rattle.listing_tally.specs.declared.Phase.{Phase}
 use Rattle.listing_tally.specs.declared.Phase.TheVariants.{Empty, Inside, Whole, Stopped}
 use Rattle.listing_tally.specs.declared.Progress.{Progress}
@@ -36,9 +32,9 @@ abbrev pub go_on : Bool → ℕ → ℕ → Progress
 go_on ends reads extents = record { phase = cond ends Whole Inside; reads = reads; extents = extents }
 
 -- the first line: a trace of no reads begins, or the text is refused
-abbrev pub head_taken : ℕ → ℕ → Head → Progress
-head_taken reads extents (Trace ends) = go_on ends 0 0
-head_taken reads extents BadHead = refused 1 reads extents
+abbrev pub head_taken : ℕ → ℕ → Option Bool → Progress
+head_taken reads extents (Some ends) = go_on ends 0 0
+head_taken reads extents None = refused 1 reads extents
 
 -- a text with so many reads of so many extents, and its rows
 module _ (reads extents : ℕ) (stack counts : List ℕ) where
@@ -62,9 +58,9 @@ module _ (reads extents : ℕ) (stack counts : List ℕ) where
       (read_at (place_of stack extents x) x ends)))
 
   -- a read's line
-  abbrev pub row_taken : Row → Standing
-  row_taken (Read x ends) = read_taken x ends
-  row_taken Bad = refused_with 1
+  abbrev pub row_taken : Option (ℕ × Bool) → Standing
+  row_taken (Some read) = read_taken read.0 read.1
+  row_taken None = refused_with 1
 
   -- a line, by how far the text is
   unfoldable pub line_taken : Phase → List ℕ → Standing

@@ -7,7 +7,6 @@ ghost use Rattle.texts.specs.Logs.{trace_word};
 ghost use Rattle.listing_lines.specs.Forms.{head_found};
 ghost use Rattle.listing_tally.specs.Standings.{stands_at, refused, go_on, head_taken, read_taken, line_taken, end_taken};
 
-use listing_lines::{Head, Row};
 use reuse_engine::Place;
 
 // The bytes of the longest line.
@@ -66,7 +65,7 @@ fn gone_on(ends: bool, reads: u32, extents: usize) -> Progress
 fn take_head(line: &[u8], reads: u32, extents: usize) -> Progress
     ensures { result ≡ head_taken reads extents (head_found (after trace_word line.now)) }
 {
-    let Head::Trace(ends) = listing_lines::head_of(line) else {
+    let Some(ends) = listing_lines::head_of(line) else {
         return refused(1, reads, extents);
     };
     gone_on(ends, 0, 0)
@@ -124,7 +123,7 @@ pub fn take_line(
     match phase {
         Phase::Empty => take_head(line, reads, extents),
         Phase::Inside => {
-            let Row::Read(x, ends) = listing_lines::row_of(line) else {
+            let Some((x, ends)) = listing_lines::row_of(line) else {
                 return refused(1, reads, extents);
             };
             take_read(x, ends, reads, extents, stack, counts)
@@ -158,7 +157,7 @@ pub fn end_line(
         return take_line(rest, phase, reads, extents, stack, counts);
     }
     let mut whole = line;
-    reuse_copies::put_bytes(&mut whole, held, rest);
+    reuse_copies::put(&mut whole, held, rest);
     let n = held + rest.len();
     take_line(&whole[..n], phase, reads, extents, stack, counts)
 }

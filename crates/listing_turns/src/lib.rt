@@ -92,7 +92,7 @@ pub fn advance(
     let all = held + n;
     if end == bytes.len() && all <= LONGEST {
         let mut more = line;
-        reuse_copies::put_bytes(&mut more, held, &bytes[at..end]);
+        reuse_copies::put(&mut more, held, &bytes[at..end]);
         return kept(end, more, all, phase, reads, extents);
     }
     let rest = &bytes[at..end];

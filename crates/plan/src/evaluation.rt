@@ -47,9 +47,10 @@ pub fn evaluate(
         taken: from,
         words: 0,
     };
-    let l = plan_lines::line_at(s, at, under);
+    let Some(l) = plan_lines::line_at(s, at, under) else {
+        return done;
+    };
     match l {
-        Line::Bad => done,
         Line::Seg {
             reads,
             closes,
@@ -74,7 +75,7 @@ pub fn evaluate(
                 done = evaluate(s, here, inner, log, taken, below, &mut work[LEVEL..], out);
                 done.words = plan_joins::join_held(work, held, out, done.words);
             }
-            done.closes = done.closes - 1;
+            done.closes -= 1;
             done
         }
     }

@@ -11,7 +11,8 @@ use Rattle.texts.specs.PlanPlaces.{Place, seg_at, join_at, bad_at, line_at}
 use Rattle.texts.proofs.PlanPlaces.{cut-seg, cut-join}
 use Rattle.texts.proofs.Positions.{gone}
 use Rattle.plan_lines.specs.declared.Line.{Line}
-use Rattle.plan_lines.specs.declared.Line.TheVariants.{Seg, Join, Bad}
+use Rattle.plan_lines.specs.declared.Line.TheVariants.{Seg, Join}
+use Rattle.std.specs.Prelude.{Option, None, Some}
 use Rattle.plan_lines.specs.Lines.{line_by, line_found, place_of, LineWithin}
 
 -- no line stands where no byte does
@@ -21,7 +22,7 @@ none_left zero = refl
 none_left (suc under) = rw (ne_eqb 0 (suc under) (λ e. omega (arith, e)))
 
 -- nor past the end of a text
-pub past_end : (s : List ℕ) (at under : ℕ) → length s < at → Bad ≡ line_found s at under
+pub past_end : (s : List ℕ) (at under : ℕ) → length s < at → None ≡ line_found s at under
 unfolding line_found
 past_end s at under h = sym (ap (line_by (length s)) (ap (line_at under) (gone s at (omega arith)) ∙ none_left under))
 
@@ -30,13 +31,13 @@ begins : (s : List ℕ) (next : ℕ) → next ≤ length s → next ≡ length s
 begins s next h = omega (arith, length-drop next s)
 
 -- a line that ends within the text is found by the text after it
-by_place : (s : List ℕ) (at : ℕ) (l : Line) → LineWithin at (length s) l → l ≡ line_by (length s) (place_of s l)
-by_place s at (Seg n closes next) w = ap (Seg n closes) (begins s next w.1)
-by_place s at (Join next) w = ap Join (begins s next w.1)
-by_place s at Bad w = refl
+by_place : (s : List ℕ) (at : ℕ) (l : Option Line) → LineWithin at (length s) l → l ≡ line_by (length s) (place_of s l)
+by_place s at (Some (Seg n closes next)) w = ap (λ (k : ℕ). Some (Seg n closes k)) (begins s next w.1)
+by_place s at (Some (Join next)) w = ap (λ (k : ℕ). Some (Join k)) (begins s next w.1)
+by_place s at None w = refl
 
 -- so it is the line found there
-pub line-is : (s : List ℕ) (at under : ℕ) (l : Line) → place_of s l ≡ line_at under (drop at s) → LineWithin at (length s) l → l ≡ line_found s at under
+pub line-is : (s : List ℕ) (at under : ℕ) (l : Option Line) → place_of s l ≡ line_at under (drop at s) → LineWithin at (length s) l → l ≡ line_found s at under
 unfolding line_found
 line-is s at under l e w = by_place s at l w ∙ ap (line_by (length s)) e
 
@@ -68,27 +69,27 @@ module _ (s : List ℕ) (at : ℕ) (h : at ≤ length s) where
   there-by under bad_at e = (refl, tt)
 
   -- a line found there
-  pub line-there : (under : ℕ) (l : Line) → l ≡ line_found s at under → (place_of s l ≡ line_at under (drop at s)) × LineWithin at (length s) l
+  pub line-there : (under : ℕ) (l : Option Line) → l ≡ line_found s at under → (place_of s l ≡ line_at under (drop at s)) × LineWithin at (length s) l
   unfolding line_found
   line-there under l e =
       let f = there-by under (line_at under (drop at s)) refl in
       (ap (place_of s) e ∙ f.0, subst (LineWithin at (length s)) (sym e) f.1)
 
-  module _ (under : ℕ) (l : Line) (e : l ≡ line_found s at under) where
+  module _ (under : ℕ) (l : Line) (e : Some l ≡ line_found s at under) where
     -- it is a seg's
     pub seg-line : (n closes next : ℕ) → l ≡ Seg n closes next → (seg_at n closes (drop next s) ≡ line_at under (drop at s)) × (at < next) × (next ≤ length s)
     seg-line n closes next q =
-        let f = line-there under l e in
-        let w = subst (LineWithin at (length s)) q f.1 in
-        (subst (λ (v : Line). place_of s v ≡ line_at under (drop at s)) q f.0, w.0, w.1)
+        let f = line-there under (Some l) e in
+        let w = subst (λ (v : Line). LineWithin at (length s) (Some v)) q f.1 in
+        (subst (λ (v : Line). place_of s (Some v) ≡ line_at under (drop at s)) q f.0, w.0, w.1)
 
     -- it is an opened join's
     pub join-line : (next : ℕ) → l ≡ Join next → (join_at (drop next s) ≡ line_at under (drop at s)) × (at < next) × (next ≤ length s)
     join-line next q =
-        let f = line-there under l e in
-        let w = subst (LineWithin at (length s)) q f.1 in
-        (subst (λ (v : Line). place_of s v ≡ line_at under (drop at s)) q f.0, w.0, w.1)
+        let f = line-there under (Some l) e in
+        let w = subst (λ (v : Line). LineWithin at (length s) (Some v)) q f.1 in
+        (subst (λ (v : Line). place_of s (Some v) ≡ line_at under (drop at s)) q f.0, w.0, w.1)
 
-    -- it is none
-    pub no_line : l ≡ Bad → bad_at ≡ line_at under (drop at s)
-    no_line q = subst (λ (v : Line). place_of s v ≡ line_at under (drop at s)) q (line-there under l e).0
+  -- none is found there
+  pub no_line : (under : ℕ) → None ≡ line_found s at under → bad_at ≡ line_at under (drop at s)
+  no_line under e = (line-there under None e).0

@@ -1,52 +1,55 @@
 -- The lines of a plan text at a position.
-use mathlib.Core.Path.{◌≡◌, sym, ap, ◌∙◌}
+use mathlib.Core.Path.{◌≡◌, refl, sym, ap, ◌∙◌}
 use Prim.Native.Nat.{ℕ, zero, suc, ◌+◌, ◌-◌, ◌≤◌, ◌<◌}
 use native.Mathlib.Omega.{arith}
 use mathlib.Core.Bool.{true, false}
-use mathlib.Core.List.{List}
+use mathlib.Core.List.{List, [], ◌∷◌}
 use lib.ListN.{length, drop, get_or, length-drop}
 use lib.Seq.{drop-drop}
 use borrow.Author.Tests.{eq-eqb, ne_eqb}
+use Rattle.std.proofs.Common.{⊎_elim}
+use Rattle.std.proofs.lemmas.Bool.{cases_lt}
 use Rattle.texts.specs.Digits.{value, bad, number_of}
 use Rattle.texts.specs.Words.{run_of, word_at}
 use Rattle.texts.specs.Plans.{join_word, seg_word}
 use Rattle.texts.specs.PlanPlaces.{Place, seg_at, join_at, bad_at, join_ends, seg_ends, brackets_at, number_at, form_at, line_at}
 use Rattle.plan_lines.specs.declared.Line.{Line}
-use Rattle.plan_lines.specs.declared.Line.TheVariants.{Seg, Join, Bad}
-use Rattle.plan_lines.specs.Lines.{LineWithin}
+use Rattle.plan_lines.specs.declared.Line.TheVariants.{Seg, Join}
+use Rattle.std.specs.Prelude.{Option, None, Some}
+use Rattle.plan_lines.specs.Lines.{LineWithin, LineEnd}
 use Rattle.texts.proofs.Positions.{gone, here}
 
 -- a line past a later position is past an earlier one
-pub line-from : (at later len : ℕ) (l : Line) → at ≤ later → LineWithin later len l → LineWithin at len l
-line-from at later len (Seg n closes next) h w = (omega arith, w.1)
-line-from at later len (Join next) h w = (omega arith, w.1)
-line-from at later len Bad h w = tt
+pub line-from : (at later len : ℕ) (l : Option Line) → at ≤ later → LineWithin later len l → LineWithin at len l
+line-from at later len (Some (Seg n closes next)) h w = (omega arith, w.1)
+line-from at later len (Some (Join next)) h w = (omega arith, w.1)
+line-from at later len None h w = tt
 
 module _ (s : List ℕ) (i : ℕ) where
-  -- the text ends where a join's line should
-  pub join-none : length s ≤ i → bad_at ≡ join_ends (drop i s)
-  join-none h = rw (gone s i h)
+  -- no byte 10 stands where a line should end: one law for each of the two lines, `ends` being what stands there
+  none-ends : (ends : List ℕ → Place) → ends [] ≡ bad_at → ((x : ℕ) (l : List ℕ) → (x ≡ 10 → ⊥) → ends (x ∷ l) ≡ bad_at) → LineEnd s i None → bad_at ≡ ends (drop i s)
+  none-ends ends e f h =
+      ⊎_elim
+      (λ p. sym (ap ends (here s i p) ∙ f (get_or s i 0) (drop (i + 1) s) (h p)))
+      (λ p. sym (ap ends (gone s i p) ∙ e))
+      (cases_lt i (length s))
 
-  -- another byte stands there
-  pub join-other : i < length s → (get_or s i 0 ≡ 10 → ⊥) → bad_at ≡ join_ends (drop i s)
-  join-other h f = rw (here s i h, ne_eqb (get_or s i 0) 10 f)
+  -- no join's line ends there
+  pub join-none : LineEnd s i None → bad_at ≡ join_ends (drop i s)
+  join-none = none-ends join_ends refl (λ x l f. rw (ne_eqb x 10 f))
 
   -- a join's line ends there
-  pub join-ends : i < length s → get_or s i 0 ≡ 10 → join_at (drop (i + 1) s) ≡ join_ends (drop i s)
-  join-ends h e = sym (ap join_ends (here s i h) ∙ rw (eq-eqb (get_or s i 0) 10 e))
+  pub join-ends : (next : ℕ) → LineEnd s i (Some next) → join_at (drop next s) ≡ join_ends (drop i s)
+  join-ends next h = sym (ap join_ends (here s i h.0) ∙ rw (eq-eqb (get_or s i 0) 10 h.1, h.2))
 
   module _ (n c : ℕ) where
-    -- the text ends where a seg's line should
-    pub seg-none : length s ≤ i → bad_at ≡ seg_ends n c (drop i s)
-    seg-none h = rw (gone s i h)
-
-    -- another byte stands there
-    pub seg-other : i < length s → (get_or s i 0 ≡ 10 → ⊥) → bad_at ≡ seg_ends n c (drop i s)
-    seg-other h f = rw (here s i h, ne_eqb (get_or s i 0) 10 f)
+    -- no seg's line ends there
+    pub seg-none : LineEnd s i None → bad_at ≡ seg_ends n c (drop i s)
+    seg-none = none-ends (seg_ends n c) refl (λ x l f. rw (ne_eqb x 10 f))
 
     -- a seg's line ends there
-    pub seg-ends : i < length s → get_or s i 0 ≡ 10 → seg_at n c (drop (i + 1) s) ≡ seg_ends n c (drop i s)
-    seg-ends h e = sym (ap (seg_ends n c) (here s i h) ∙ rw (eq-eqb (get_or s i 0) 10 e))
+    pub seg-ends : (next : ℕ) → LineEnd s i (Some next) → seg_at n c (drop next s) ≡ seg_ends n c (drop i s)
+    seg-ends next h = sym (ap (seg_ends n c) (here s i h.0) ∙ rw (eq-eqb (get_or s i 0) 10 h.1, h.2))
 
   -- no number stands there
   pub number-none : bad ≡ number_of (drop i s) → bad_at ≡ number_at (number_of (drop i s))

@@ -35,13 +35,6 @@ fn closable(most: usize, count: usize) -> usize
     if count == 0 { 0 } else { most + 1 }
 }
 
-// The larger of two depths.
-fn deeper(a: usize, b: usize) -> usize
-    ensures { result ≡ max a b }
-{
-    if a < b { b } else { a }
-}
-
 // The form at `at` under `under` joins, of which `most` may close after it, the innermost with `count` parts so far.
 #[cycle(form_parts)]
 pub fn form(s: &[u8], at: usize, under: usize, most: usize, count: usize) -> Found
@@ -49,9 +42,10 @@ pub fn form(s: &[u8], at: usize, under: usize, most: usize, count: usize) -> Fou
     ensures within { FormWithin at (length s.now) most under max_joins 0 result }
     ensures is { FormIs s.now at under most count result }
 {
-    let l = plan_lines::line_at(s, at, under);
+    let Some(l) = plan_lines::line_at(s, at, under) else {
+        return Found::Refused(1);
+    };
     match l {
-        Line::Bad => Found::Refused(1),
         Line::Seg {
             reads,
             closes,
@@ -110,7 +104,7 @@ fn parts(
             next,
         } => {
             let total = reads + more;
-            let deep = deeper(low, depth);
+            let deep = low.max(depth);
             if 0 < closes {
                 return Found::Read {
                     reads: total,

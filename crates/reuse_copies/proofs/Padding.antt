@@ -1,52 +1,27 @@
--- Extents laid into a stack: a turn of the loop, and the stack that they make.
+-- Extents laid into a stack, and the stack that they make.
 use mathlib.Core.Path.{◌≡◌, refl, sym, ap, ◌∙◌}
-use Prim.Native.Nat.{ℕ, suc, ◌+◌, ◌-◌, ◌≤◌, ◌<◌, min}
+use Prim.Native.Nat.{ℕ, ◌+◌, ◌-◌, ◌≤◌, ◌<◌, min}
 use native.Mathlib.Omega.{arith}
-use native.Mathlib.Numerals.{add-one}
 use mathlib.Core.List.{List, [], ◌++◌, append_assoc, append-nil}
 use lib.Dec.{leb}
-use lib.ListN.{length, take, drop, get_or, set, replicate, length-append, length-take, length-drop, length-replicate, drop_of_length-le, get_or-eq_default, get_or-append}
-use lib.Seq.{get_or-append-add, get_or-drop, take-suc, drop-cons, set_at, take_all, take_at, drop-drop, drop-append-add, take-append-le, length-take-le}
+use lib.ListN.{length, take, drop, get_or, replicate, length-append, length-take, length-drop, length-replicate, drop_of_length-le, get_or-eq_default, get_or-append}
+use lib.Seq.{get_or-append-add, get_or-drop, take_all, take_at, drop-drop, drop-append-add, take-append-le}
 use borrow.Author.Tests.{leb-true, leb-false}
+use Rattle.std.proofs.lemmas.List.{take_min, drop_min}
 use Rattle.reuse.specs.Limits.{max_extents}
 use Rattle.reuse_rows.specs.Rows.{put_at, padded}
 use Rattle.reuse.proofs.Lists.{by-test}
 use Rattle.reuse.proofs.Sums.{get_or-blank-row}
 
--- the first i of n extents are laid over the row z
-pub record Laying (e z : List ℕ) (n : ℕ) (row : List ℕ) (i : ℕ) : Type 0 where
-  pub most : n ≡ min (length z) (length e)
-  pub within : i ≤ n
-  pub laid : row ≡ take i e ++ drop i z
-
-module _ (e z : List ℕ) (n : ℕ) where
-  -- none is laid
-  pub lay-start : n ≡ min (length z) (length e) → Laying e z n z 0
-  lay-start m = record { most = m; within = omega arith; laid = refl }
-
-  module _ (row : List ℕ) (i : ℕ) (h : Laying e z n row i) where
-    -- the next one
-    pub lay-turn : i < n → Laying e z n (set row i (get_or e i 0)) (i + 1)
-    lay-turn l =
-        let p : length (take i e) ≡ i = length-take-le i e (omega (arith, h.most)) in
-        rw (add-one i) (record {
-          most = h.most;
-          within = omega arith;
-          laid = rw (h.laid, drop-cons z i 0 (omega (arith, h.most)), take-suc e i 0 (omega (arith, h.most)))
-              (set_at (take i e) (get_or z i 0) (drop (suc i) z) (get_or e i 0) i p ∙ simp append_assoc);
-        })
-
-    -- all are laid
-    pub lay-end : n ≤ i → row ≡ take (length z) e ++ drop (length e) z
-    lay-end l =
-        let t : take i e ≡ take (length z) e = by-test (leb (length e) (length z))
-        (λ q. take_all i e (omega (arith, leb-true, h.most)) ∙ sym (take_all (length z) e (leb-true (length e) (length z) q)))
-        (λ q. let k : i ≡ length z = omega (arith, leb-false, h.most, h.within) in rw k) in
-        let d : drop i z ≡ drop (length e) z = by-test (leb (length e) (length z))
-        (λ q. let k : i ≡ length e = omega (arith, leb-true, h.most, h.within) in rw k)
-        (λ q. drop_of_length-le z {i = i} (omega (arith, leb-false, h.most))
-        ∙ sym (drop_of_length-le z {i = length e} (omega (arith, leb-false)))) in
-        h.laid ∙ rw (t, d)
+-- the first of the words, as many as fit, laid over a row of zeros
+pub laid-over : (w : List ℕ) (n : ℕ) → n ≡ min (length w) max_extents → take n w ++ drop n (replicate max_extents 0) ≡ padded w
+unfolding padded
+laid-over w n h =
+    let z : List ℕ = replicate max_extents 0 in
+    let t : take n w ≡ take max_extents w = ap (λ (k : ℕ). take k w) (omega arith) ∙ take_min max_extents w in
+    let m : n ≡ min (length w) (length z) = omega (arith, length-replicate {A = ℕ} max_extents 0) in
+    let d : drop n z ≡ drop (length w) z = ap (λ (k : ℕ). drop k z) m ∙ drop_min (length w) z in
+    rw (t, d)
 
 -- laid over a longer row, the extents stand on top
 laid-front : (e z : List ℕ) → length e ≤ length z → take (length e) (take (length z) e ++ drop (length e) z) ≡ e
@@ -104,7 +79,7 @@ padded-cut l = by-test (leb (length l) max_extents)
     none_left l k = drop_of_length-le (replicate {A = ℕ} max_extents 0) {i = length l} (simp length-replicate (omega arith))
 
 -- fewer words than the limit come first
-short : (s : List ℕ) → length s ≤ max_extents → padded s ≡ s ++ drop (length s) (replicate max_extents 0)
+pub short : (s : List ℕ) → length s ≤ max_extents → padded s ≡ s ++ drop (length s) (replicate max_extents 0)
 unfolding padded
 short s k = rw (take_all max_extents s k)
 

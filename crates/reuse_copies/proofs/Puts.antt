@@ -1,13 +1,13 @@
--- Words put into a row: the row afterwards, and a turn of the loop that puts them.
+-- Words put into a row: the row afterwards.
 use mathlib.Core.Path.{◌≡◌, refl, sym, ap, ◌∙◌}
 use Prim.Native.Nat.{ℕ, suc, ◌+◌, ◌-◌, ◌≤◌, ◌<◌}
 use native.Mathlib.Omega.{arith}
 use mathlib.Core.List.{List, [], ◌∷◌, ◌++◌, append_assoc}
-use lib.ListN.{length, take, drop, get_or, set, drop_of_length-le, take-append-drop, length-append, length-take, length-drop, length-set}
+use lib.ListN.{length, take, drop, get_or, set, take-append-drop, length-append, length-take, length-drop}
 use lib.Seq.{take-suc-set, drop-set-lt, drop-drop, drop_at, take_at, take-take, take-append-le, length-take-le, get_or-take, get_or-drop}
 use borrow.Author.Tests.{le-leb, lt-leb}
+use borrow.Rule.Slice.PartMut.{put_mid}
 use Rattle.reuse_rows.specs.Rows.{put_at, placed}
-use Rattle.reuse_rows.proofs.Slices.{next_word}
 
 -- nothing put
 pub put-none : (o : List ℕ) (n : ℕ) → put_at o n [] ≡ o
@@ -87,44 +87,20 @@ put-at o at l j fits h =
     ∙ sym (get_or-take (length l) (drop at (put_at o at l)) j 0 h)
     ∙ ap (λ (r : List ℕ). get_or r j 0) (put-there o at l fits)
 
--- words that fit are put
-pub placed-fits : (o : List ℕ) (n : ℕ) (l : List ℕ) → n + length l ≤ length o → placed o n l ≡ put_at o n l
-unfolding placed
-placed-fits o n l h = rw (le-leb (n + length l) (length o) h)
+module _ {A : Type 0} (o : List A) (n : ℕ) (l : List A) where
+  -- words that fit are put
+  pub placed-fits : n + length l ≤ length o → placed o n l ≡ put_at o n l
+  unfolding placed
+  placed-fits h = rw (le-leb (n + length l) (length o) h)
 
--- words that do not fit leave the row as it was
-pub placed-not : (o : List ℕ) (n : ℕ) (l : List ℕ) → length o < n + length l → placed o n l ≡ o
-unfolding placed
-placed-not o n l h = rw (lt-leb (n + length l) (length o) h)
+  -- words that do not fit leave the row as it was
+  pub placed-not : length o < n + length l → placed o n l ≡ o
+  unfolding placed
+  placed-not h = rw (lt-leb (n + length l) (length o) h)
 
--- the first i words of s are copied; what is left is still to be put
-pub record Copying (o : List ℕ) (at : ℕ) (s row : List ℕ) (i : ℕ) : Type 0 where
-  pub within : i ≤ length s
-  pub long : length row ≡ length o
-  pub fits : at + length s ≤ length o
-  pub same : put_at row (at + i) (drop i s) ≡ put_at o at s
-
-module _ (o : List ℕ) (at : ℕ) (s : List ℕ) where
-  -- none is copied
-  pub copy_start : at + length s ≤ length o → Copying o at s o 0
-  copy_start h = let z : at + 0 ≡ at = omega arith in record { within = omega arith; long = refl; fits = h; same = rw z }
-
-  module _ (row : List ℕ) (i : ℕ) (h : Copying o at s row i) where
-    -- one more
-    pub copy-turn : i < length s → Copying o at s (set row (at + i) (get_or s i 0)) (i + 1)
-    copy-turn l =
-        let n : at + (i + 1) ≡ at + i + 1 = omega arith in
-        record {
-          within = omega arith;
-          long = simp length-set h.long;
-          fits = h.fits;
-          same = rw n
-              (sym (put-cons row (at + i) (get_or s i 0) (drop (i + 1) s) (omega (arith, h.long, h.fits)))
-              ∙ rw (next_word s i l) at h.same);
-        }
-
-    -- all are
-    pub copy-end : length s ≤ i → row ≡ placed o at s
-    copy-end l =
-        let z : drop i s ≡ [] = drop_of_length-le s {i = i} l in
-        sym (put-none row (at + i)) ∙ (rw z at h.same) ∙ sym (placed-fits o at s h.fits)
+  -- the row when a part of it, lent to be written, is back with these words
+  pub placed-part : (new : List A) → new ≡ l → n + length l ≤ length o → put_mid n (n + length l - n) o new ≡ placed o n l
+  unfolding put_at
+  placed-part new e h =
+      let k : n + length l - n ≡ length l = omega arith in
+      rw (e, k, drop-drop (length l) n o) (sym (placed-fits h))

@@ -8,11 +8,11 @@ blank [] = true
 blank (x ∷ xs) = eqb x 0 && blank xs
 
 -- the words l from place `at` on, the others as they were
-unfoldable pub put_at : List ℕ → ℕ → List ℕ → List ℕ
+unfoldable pub put_at : {A : Type 0} → List A → ℕ → List A → List A
 put_at o at l = take at o ++ (l ++ drop (at + length l) o)
 
 -- the words l from place `at` on where they fit; the row as it was where they do not
-unfoldable pub placed : List ℕ → ℕ → List ℕ → List ℕ
+unfoldable pub placed : {A : Type 0} → List A → ℕ → List A → List A
 placed o at l = cond (leb (at + length l) (length o)) (put_at o at l) o
 
 -- one more at a place of the row, where there is one, in a word of 32 bits

@@ -1,4 +1,3 @@
-pub mod Scans
 pub mod Entries
 pub mod Laying
 pub mod Choosing

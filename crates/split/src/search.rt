@@ -51,11 +51,12 @@ fn smallest(row: &[u32], low: usize, store: usize) -> usize
     requires { Scanning row.now low store }
     ensures { Scanned row.now low store result }
 {
-    let mut t = low;
-    while row[t] != row[store] {
-        t = t + 1;
+    for t in low..store {
+        if row[t] == row[store] {
+            return t;
+        }
     }
-    t
+    store
 }
 
 // The first share from the least on that, with the others' misses in what is left, reaches these misses.
@@ -63,13 +64,13 @@ fn share_at(costs: &[u32], others: &[u32], misses: u32, least: usize, left: usiz
     requires { Seeking costs.now others.now misses least left }
     ensures { Sought costs.now others.now misses least left result }
 {
-    let mut share = least;
-    let mut size = split_rows::smaller(share, MAX_EXTENTS);
-    while costs[size] + others[left - share] != misses {
-        share = share + 1;
-        size = split_rows::smaller(share, MAX_EXTENTS);
+    for share in least..left {
+        let size = share.min(MAX_EXTENTS);
+        if costs[size] + others[left - share] == misses {
+            return share;
+        }
     }
-    share
+    left
 }
 
 // The customers' shares of the room `left`, from the first on, at the front of `shares`.

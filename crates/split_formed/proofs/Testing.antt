@@ -1,67 +1,42 @@
 -- How far the test has come: what is left of the words decides as all of them do.
-use mathlib.Core.Path.{◌≡◌, refl, sym, ap, ◌∙◌}
+use mathlib.Core.Path.{◌≡◌, sym, ◌∙◌}
 use Prim.Native.Nat.{ℕ, ◌+◌, ◌-◌, ◌*◌, ◌≤◌, ◌<◌}
 use native.Mathlib.Omega.{arith}
 use mathlib.Core.List.{List}
 use mathlib.Core.Bool.{true, false}
 use lib.ListN.{length, take, drop, get_or, length-drop}
-use lib.Seq.{get_or-drop, drop-drop, take_all}
-use borrow.Rule.Slice.PartMut.{mid_of}
+use lib.Seq.{take_all}
 use Rattle.reuse.specs.Limits.{max_extents}
 use Rattle.reuse.specs.Summary.{extents_of, well_formed}
 use Rattle.split_calls.specs.Cuts.{cut_summaries}
 use Rattle.split_calls.specs.Calls.{all_formed}
 use Rattle.split_calls.proofs.Cuts.{formed-one, first-fails, first_passes, first_short}
 
--- `left` customers' words from `at` on
-pub record Remaining (words : List ℕ) (customers at left : ℕ) : Type 0 where
-  pub inside : at ≤ length words
-  pub some : 0 < left
-  pub same : all_formed (cut_summaries left (drop at words)) ≡ all_formed (cut_summaries customers words)
+-- `rest` are the words from the customer of this number on, 1 for the first
+abbrev pub Remaining : List ℕ → ℕ → List ℕ → ℕ → Type 0
+Remaining words customers rest number = all_formed (cut_summaries (customers + 1 - number) rest) ≡ all_formed (cut_summaries customers words)
 
--- at the start
-pub remaining-start : (words : List ℕ) (customers : ℕ) → 0 < customers → Remaining words customers 0 customers
-remaining-start words customers h = record { inside = omega arith; some = h; same = refl }
-
--- v of the words from a place on
-extents-at : (words : List ℕ) (at : ℕ) → extents_of (drop at words) ≡ get_or words (at + 1) 0
-unfolding extents_of
-extents-at words at = get_or-drop at words 1 0
-
-module _ (words : List ℕ) (customers at left : ℕ) (r : Remaining words customers at left) where
+module _ (words : List ℕ) (customers : ℕ) (rest : List ℕ) (number : ℕ) (r : Remaining words customers rest number) where
   -- of one customer all words that are left are its own
-  pub remaining-end : left ≤ 1 → well_formed (mid_of at (length words - at) words) ≡ all_formed (cut_summaries customers words)
-  remaining-end h =
-      ap well_formed (take_all (length words - at) (drop at words) (omega (arith, length-drop at words)))
-      ∙ sym (formed-one left (drop at words) (omega (arith, r.some)))
-      ∙ r.same
+  pub remaining-end : number ≡ customers → well_formed rest ≡ all_formed (cut_summaries customers words)
+  remaining-end e = sym (formed-one (customers + 1 - number) rest (omega arith)) ∙ r
 
-  module _ (more : 1 < left) where
+  module _ (more : number < customers) where
     -- words too few for the first summary, or with more extents than the limit
-    pub remaining-short : (2 + 3 * get_or words (at + 1) 0 ≤ length words - at → get_or words (at + 1) 0 ≤ max_extents → ⊥) → false ≡ all_formed (cut_summaries customers words)
-    remaining-short k =
-        sym (first_short left (drop at words) more (λ a b. k (omega (arith, a, extents-at words at, length-drop at words)) (omega (arith, b, extents-at words at))))
-        ∙ r.same
+    pub remaining-short : (2 + 3 * get_or rest 1 0 ≤ length rest → get_or rest 1 0 ≤ max_extents → ⊥) → false ≡ all_formed (cut_summaries customers words)
+    unfolding extents_of
+    remaining-short k = sym (first_short (customers + 1 - number) rest (omega arith) k) ∙ r
 
-    module _ (end : ℕ) (e : end ≡ at + (2 + 3 * get_or words (at + 1) 0)) where
-      -- the words of the first summary
-      own-words : take (2 + 3 * extents_of (drop at words)) (drop at words) ≡ mid_of at (end - at) words
-      own-words =
-          ap (λ (n : ℕ). take n (drop at words)) (let q : 2 + 3 * extents_of (drop at words) ≡ end - at = omega (arith, extents-at words at) in q)
+    -- a first summary that is not well formed
+    pub remaining-bad : well_formed (take (2 + 3 * get_or rest 1 0) rest) ≡ false → false ≡ all_formed (cut_summaries customers words)
+    unfolding extents_of
+    remaining-bad h = sym (first-fails (customers + 1 - number) rest (omega arith) h) ∙ r
 
-      -- that is not well formed
-      pub remaining-bad : well_formed (mid_of at (end - at) words) ≡ false → false ≡ all_formed (cut_summaries customers words)
-      remaining-bad h = sym (first-fails left (drop at words) more (ap well_formed own-words ∙ h)) ∙ r.same
-
-      -- that is well formed: the others are left
-      pub remaining-turn : end ≤ length words → well_formed (mid_of at (end - at) words) ≡ true → Remaining words customers end (left - 1)
-      remaining-turn l h = record {
-        inside = l;
-        some = omega arith;
-        same =
-            ap (λ (w : List ℕ). all_formed (cut_summaries (left - 1) w))
-            (ap (λ (n : ℕ). drop n words) (let q : end ≡ at + (2 + 3 * extents_of (drop at words)) = omega (arith, extents-at words at) in q)
-            ∙ sym (drop-drop (2 + 3 * extents_of (drop at words)) at words))
-            ∙ first_passes left (drop at words) more (ap well_formed own-words ∙ h)
-            ∙ r.same;
-      }
+    -- one that is: the others are left
+    pub remaining-turn : (own : ℕ) → own ≡ 2 + 3 * get_or rest 1 0 → own ≤ length rest → well_formed (take own rest) ≡ true
+        → Remaining words customers (take (length rest - own) (drop own rest)) (number + 1)
+    unfolding extents_of
+    remaining-turn own e l h =
+        let n : customers + 1 - (number + 1) ≡ customers + 1 - number - 1 = omega arith in
+        rw (take_all (length rest - own) (drop own rest) (omega (arith, length-drop own rest)), n, e)
+        (first_passes (customers + 1 - number) rest (omega arith) (rw e at h) ∙ r)

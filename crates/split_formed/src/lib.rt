@@ -14,26 +14,23 @@ pub fn all_formed(words: &[u32], customers: usize) -> bool
     if customers == 0 {
         return true;
     }
-    let mut at: usize = 0;
-    let mut left = customers;
-    while 1 < left {
-        if words.len() - at < 2 {
+    let mut rest = words;
+    for _ in 1..customers {
+        if rest.len() < 2 {
             return false;
         }
-        let v = words[at + 1] as usize;
+        let v = rest[1] as usize;
         if MAX_EXTENTS < v {
             return false;
         }
         let own = 2 + 3 * v;
-        if words.len() - at < own {
+        if rest.len() < own {
             return false;
         }
-        let end = at + own;
-        if !summary_formed::well_formed(&words[at..end]) {
+        if !summary_formed::well_formed(&rest[..own]) {
             return false;
         }
-        at = end;
-        left = left - 1;
+        rest = &rest[own..];
     }
-    summary_formed::well_formed(&words[at..])
+    summary_formed::well_formed(rest)
 }

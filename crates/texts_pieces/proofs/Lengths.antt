@@ -1,53 +1,25 @@
 -- How many bytes stand before the end of a line: at the end of a text, at its bytes, and what stands next.
 use mathlib.Core.Path.{◌≡◌, refl, sym, ap, ◌∙◌}
-use Prim.Native.Nat.{ℕ, zero, suc, ◌+◌, ◌-◌, ◌≤◌, ◌<◌}
+use Prim.Native.Nat.{ℕ, zero, suc, ◌+◌, ◌≤◌, ◌<◌}
 use native.Mathlib.Omega.{arith}
-use native.Mathlib.Numerals.{add-one, sub-one}
+use native.Mathlib.Numerals.{one-add}
+use mathlib.Core.Bool.{not}
+use Rattle.std.specs.List.{prefix_len}
 use mathlib.Core.List.{List, [], ◌∷◌}
 use lib.Dec.{eqb}
-use lib.ListN.{length, take, drop, get_or, length-drop}
+use lib.ListN.{length, take, drop, length-drop}
 use lib.Seq.{drop-drop}
-use borrow.Author.Tests.{eqb-true, eq-eqb, ne_eqb}
+use borrow.Author.Tests.{eqb-true}
 use Rattle.texts.specs.Lines.{line_count}
 use Rattle.reuse.proofs.Lists.{by-test}
-use Rattle.texts.proofs.Positions.{gone, here}
 use Rattle.texts_pieces.specs.Pieces.{line_length}
 
--- of no bytes none stand before the end of a line
-length-nil : (k : ℕ) → line_length k [] ≡ 0
+-- the bytes before the end of a line are those that are not byte 10, of so many
+pub length_front : (k : ℕ) (l : List ℕ) → prefix_len (λ x. not (eqb x 10)) (take k l) ≡ line_length k l
 unfolding line_length
-length-nil zero = refl
-length-nil (suc k) = refl
-
--- none stand before byte 10
-length-ten : (k x : ℕ) (l : List ℕ) → x ≡ 10 → line_length k (x ∷ l) ≡ 0
-unfolding line_length
-length-ten zero x l e = refl
-length-ten (suc k) x l e = rw (eq-eqb x 10 e)
-
--- another byte is counted
-length-yes : (k x : ℕ) (l : List ℕ) → (x ≡ 10 → ⊥) → 0 < k → line_length k (x ∷ l) ≡ line_length (k - 1) l + 1
-unfolding line_length
-length-yes zero x l f h = absurd (omega arith)
-length-yes (suc k) x l f h = rw (ne_eqb x 10 f) (sym (add-one (line_length k l)) ∙ ap (λ (j : ℕ). line_length j l + 1) (sym (sub-one (suc k))))
-
--- none are counted to at most 0
-pub length-done : (k : ℕ) (l : List ℕ) → k ≡ 0 → line_length k l ≡ 0
-unfolding line_length
-length-done k l e = rw e
-
-module _ (s : List ℕ) (i : ℕ) where
-  -- at the end of the text none are left
-  pub length-end : (k : ℕ) → length s ≤ i → line_length k (drop i s) ≡ 0
-  length-end k h = rw (gone s i h) (length-nil k)
-
-  -- at byte 10 the line ends
-  pub length-stop : (k : ℕ) → i < length s → get_or s i 0 ≡ 10 → line_length k (drop i s) ≡ 0
-  length-stop k h e = rw (here s i h) (length-ten k (get_or s i 0) (drop (i + 1) s) e)
-
-  -- at another byte it goes on
-  pub length_more : (k : ℕ) → i < length s → (get_or s i 0 ≡ 10 → ⊥) → 0 < k → line_length k (drop i s) ≡ line_length (k - 1) (drop (i + 1) s) + 1
-  length_more k h f p = ap (line_length k) (here s i h) ∙ length-yes k (get_or s i 0) (drop (i + 1) s) f p
+length_front zero l = refl
+length_front (suc k) [] = refl
+length_front (suc k) (x ∷ l) = by-test (eqb x 10) (λ e. simp e) (λ e. simp (e, length_front k l, one-add))
 
 -- no more are counted than there are, nor than is asked
 length-short : (k : ℕ) (l : List ℕ) → (line_length k l ≤ length l) × (line_length k l ≤ k)

@@ -2,16 +2,19 @@
 use mathlib.Core.Path.{◌≡◌, refl, sym, ap, subst, ◌∙◌}
 use Prim.Native.Nat.{ℕ, zero, suc, ◌+◌, ◌-◌, ◌≤◌, ◌<◌}
 use native.Mathlib.Omega.{arith}
+use native.Mathlib.Numerals.{one-add}
 use mathlib.Core.List.{List, [], ◌∷◌, ◌++◌}
 use lib.Dec.{eqb}
-use lib.ListN.{length, drop, length-append, length-drop}
-use lib.Seq.{drop_at, drop-drop}
+use lib.ListN.{length, take, drop, length-append, length-drop}
+use lib.Seq.{take_all, drop_at, drop-drop}
 use Rattle.texts.specs.Digits.{Number, value, bad, number_of, decimal}
-use Rattle.texts.specs.Words.{run_of}
+use borrow.Author.Tests.{eqb-true, eqb-false, eq-eqb, ne_eqb}
+use Rattle.std.specs.List.{prefix_len, starts_with}
+use Rattle.texts.specs.Words.{run_of, word_at}
 use Rattle.texts_pieces.specs.Pieces.{found_by, found_at}
-use Rattle.texts_pieces.specs.declared.Found.{Found}
-use Rattle.texts_pieces.specs.declared.Found.TheVariants.{Value, Bad}
+use Rattle.std.specs.Prelude.{Option, None, Some}
 use Rattle.reuse.proofs.Lists.{by-test}
+use Rattle.texts.proofs.Positions.{word-past}
 use Rattle.texts.proofs.Numbers.{number-sound, by_digits}
 
 -- a run is no longer than the bytes, nor than it is counted
@@ -27,19 +30,46 @@ run_short (suc k) b (x ∷ l) =
 pub run-within : (s : List ℕ) (at b most r : ℕ) → at ≤ length s → r ≡ run_of most b (drop at s) → (at + r ≤ length s) × (r ≤ most)
 run-within s at b most r h e = let q = run_short most b (drop at s) in (omega (arith, q.0, e, length-drop at s), omega (arith, q.1, e))
 
+-- a run is what passes the test of its byte, of so many bytes
+pub run_front : (b k : ℕ) (l : List ℕ) → prefix_len (λ x. eqb x b) (take k l) ≡ run_of k b l
+unfolding run_of
+run_front b zero l = refl
+run_front b (suc k) [] = refl
+run_front b (suc k) (x ∷ l) = by-test (eqb x b) (λ e. simp (e, run_front b k l, one-add)) (λ e. simp e)
+
+-- the test of two bytes, either way round
+eqb-flip : (x c : ℕ) → eqb c x ≡ eqb x c
+eqb-flip x c = by-test (eqb x c) (λ e. eq-eqb c x (sym (eqb-true x c e)) ∙ sym e) (λ e. ne_eqb c x (λ q. eqb-false x c e (sym q)) ∙ sym e)
+
+-- a word stands where the bytes start with it
+word-front : (w l : List ℕ) → starts_with eqb l w ≡ word_at w l
+unfolding word_at
+word-front [] l = refl
+word-front (c ∷ w) [] = refl
+word-front (c ∷ w) (x ∷ l) = simp (eqb-flip x c, word-front w l)
+
+-- past the end only no bytes do
+pub word_past : (s w : List ℕ) (at : ℕ) → length s < at → word_at w (drop at s) ≡ eqb (length w) 0
+word_past s w at h = word-past s at w (omega arith)
+
+-- so it does at a place within the text
+pub word_front : (s w : List ℕ) (at : ℕ) → at ≤ length s → word_at w (drop at s) ≡ starts_with eqb (take (length s - at) (drop at s)) w
+word_front s w at h =
+    sym (ap (λ (l : List ℕ). starts_with eqb l w) (take_all (length s - at) (drop at s) (omega (arith, length-drop at s))) ∙ word-front w (drop at s))
+
 -- a number has a digit
 decimal-some : (n : ℕ) → 0 < length (decimal n)
 decimal-some n = by_digits (λ l. 0 < length l) (λ e h. omega arith) (λ a b p q. rw length-append (omega arith)) n
 
 -- a number with the text after it
-abbrev pub number_in : List ℕ → Found → Number
-number_in s (Value n next) = value n (drop next s)
-number_in s Bad = bad
+abbrev pub number_in : List ℕ → Option (ℕ × ℕ) → Number
+number_in s (Some r) = value r.0 (drop r.1 s)
+number_in s None = bad
 
 -- the position past a number
-abbrev pub NumberWithin : ℕ → ℕ → Found → Type 0
-NumberWithin at len (Value n next) = (at < next) × (next ≤ len)
-NumberWithin at len Bad = Unit
+abbrev pub NumberWithin : ℕ → ℕ → Option (ℕ × ℕ) → Type 0
+NumberWithin at len (Some r) = (at < r.1) × (r.1 ≤ len)
+NumberWithin at len None = Unit
 
 module _ (s : List ℕ) (at : ℕ) (h : at ≤ length s) where
   -- by the number that stands there
@@ -54,16 +84,16 @@ module _ (s : List ℕ) (at : ℕ) (h : at ≤ length s) where
       (ap (value n) q, (omega (arith, decimal-some n, p), omega (arith, p)))
 
   -- a number found there
-  pub found-there : (r : Found) → r ≡ found_at s at → (number_in s r ≡ number_of (drop at s)) × NumberWithin at (length s) r
+  pub found-there : (r : Option (ℕ × ℕ)) → r ≡ found_at s at → (number_in s r ≡ number_of (drop at s)) × NumberWithin at (length s) r
   unfolding found_at
   found-there r e = let f = found-by (number_of (drop at s)) refl in (ap (number_in s) e ∙ f.0, subst (NumberWithin at (length s)) (sym e) f.1)
 
 -- what is found, from the value and the position that the digits end at
-pub found-is : (s : List ℕ) (at n i : ℕ) → i ≤ length s → number_of (drop at s) ≡ value n (drop i s) → Value n i ≡ found_at s at
+pub found-is : (s : List ℕ) (at n i : ℕ) → i ≤ length s → number_of (drop at s) ≡ value n (drop i s) → Some (n, i) ≡ found_at s at
 unfolding found_at
-found-is s at n i h e = let z : i ≡ length s - length (drop i s) = omega (arith, length-drop i s) in ap (Value n) z ∙ sym (ap (found_by (length s)) e)
+found-is s at n i h e = let z : i ≡ length s - length (drop i s) = omega (arith, length-drop i s) in ap (λ (k : ℕ). Some (n, k)) z ∙ sym (ap (found_by (length s)) e)
 
 -- and where there is none
-pub found_none : (s : List ℕ) (at : ℕ) → number_of (drop at s) ≡ bad → Bad ≡ found_at s at
+pub found_none : (s : List ℕ) (at : ℕ) → number_of (drop at s) ≡ bad → None ≡ found_at s at
 unfolding found_at
 found_none s at e = sym (ap (found_by (length s)) e)

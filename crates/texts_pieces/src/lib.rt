@@ -1,57 +1,56 @@
 // The pieces of a line that plans and logs are read by: a run of one byte, a word, a number, all up to the line's end.
 #![tactic(auto)]
 
-ghost use Rattle.std.specs.Prelude.{◌≡◌, ◌+◌, ◌≤◌, drop};
+ghost use Rattle.std.specs.Prelude.{◌≡◌, ◌+◌, ◌≤◌, not, ◌==◌, take, drop};
+ghost use Rattle.std.specs.List.{prefix_len};
 ghost use Rattle.texts.specs.Words.{run_of, word_at};
 ghost use Rattle.texts_pieces.specs.Pieces.{found_at, line_length};
+
+// What stands from `at` on; nothing past the end.
+fn rest(s: &[u8], at: usize) -> &[u8]
+    ensures { result.now ≡ drop at s.now }
+{
+    &s[at.min(s.len())..]
+}
+
+// The first `most` bytes that stand from `at` on, or all where there are fewer.
+fn window(s: &[u8], at: usize, most: usize) -> &[u8]
+    ensures { result.now ≡ take most (drop at s.now) }
+{
+    let left = rest(s, at);
+    &left[..most.min(left.len())]
+}
+
+// How many bytes b a row begins with.
+fn leading(row: &[u8], b: u8) -> usize
+    ensures { result ≡ prefix_len (λ x. x == b) row.now }
+{
+    row.iter().take_while(|x| **x == b).count()
+}
+
+// How many bytes stand in a row before its first byte 10.
+fn before_end(row: &[u8]) -> usize
+    ensures { result ≡ prefix_len (λ x. not (x == 10)) row.now }
+{
+    row.iter().take_while(|x| **x != b'\n').count()
+}
 
 // How many bytes b stand in a row at `at`, counted to at most `most`; none past the end.
 pub fn run_of(s: &[u8], at: usize, b: u8, most: usize) -> usize
     ensures { result ≡ run_of most b (drop at s.now) }
 {
-    if s.len() < at {
-        return 0;
-    }
-    let mut n: usize = 0;
-    while n < most {
-        let i = at + n;
-        if s.len() <= i {
-            return n;
-        }
-        if s[i] != b {
-            return n;
-        }
-        n += 1;
-    }
-    n
+    leading(window(s, at, most), b)
 }
 
 // Whether the bytes of w stand at `at`; past the end only no bytes do.
+#[tactic(auto, using(crate::proofs::Pieces::word_past, crate::proofs::Pieces::word_front))]
 pub fn word_at(s: &[u8], at: usize, w: &[u8]) -> bool
     ensures { result ≡ word_at w.now (drop at s.now) }
 {
     if s.len() < at {
-        return w.len() == 0;
+        return w.is_empty();
     }
-    let mut n: usize = 0;
-    while n < w.len() {
-        let i = at + n;
-        if s.len() <= i {
-            return false;
-        }
-        if s[i] != w[n] {
-            return false;
-        }
-        n += 1;
-    }
-    true
-}
-
-// A number and the position past it, or none.
-#[derive(Drop)]
-pub enum Found {
-    Value(u64, usize),
-    Bad,
+    s[at..].starts_with(w)
 }
 
 // The value of a digit.
@@ -59,58 +58,36 @@ fn digit(b: u8) -> u64
     requires { (48 ≤ b) × (b ≤ 57) }
     ensures { result + 48 ≡ b }
 {
-    (b - 48) as u64
+    (b - b'0') as u64
 }
 
-// The number at `at`: 1 to 10 digits, no leading zero but 0 itself.
-pub fn number_at(s: &[u8], at: usize) -> Found
+// The number at `at`, 1 to 10 digits, no leading zero but 0 itself, and the position past it.
+pub fn number_at(s: &[u8], at: usize) -> Option<(u64, usize)>
     ensures { result ≡ found_at s.now at }
 {
     let mut v: u64 = 0;
-    let mut i = at;
-    while i < s.len() {
-        let b = s[i];
-        if b < 48 {
+    let mut end = at;
+    for &b in rest(s, at) {
+        if !b.is_ascii_digit() {
             break;
         }
-        if 57 < b {
-            break;
-        }
-        if i != at {
-            if v == 0 {
-                return Found::Bad;
-            }
-            if 1000000000 <= v {
-                return Found::Bad;
-            }
+        let zero = v == 0;
+        let long = 1000000000 <= v;
+        if end != at && (zero || long) {
+            return None;
         }
         v = v * 10 + digit(b);
-        i += 1;
+        end += 1;
     }
-    if i == at {
-        return Found::Bad;
+    if end == at {
+        return None;
     }
-    Found::Value(v, i)
+    Some((v, end))
 }
 
 // How many bytes stand at `at` before the next byte 10, counted to at most `most`; none past the end.
 pub fn line_length(s: &[u8], at: usize, most: usize) -> usize
     ensures { result ≡ line_length most (drop at s.now) }
 {
-    if s.len() < at {
-        return 0;
-    }
-    let mut len: usize = 0;
-    while len < most {
-        let i = at + len;
-        if s.len() <= i {
-            return len;
-        }
-        let ends = s[i] == 10;
-        if ends {
-            return len;
-        }
-        len += 1;
-    }
-    len
+    before_end(window(s, at, most))
 }

@@ -26,8 +26,8 @@ counts-wide c = search rules
 pub slice_bounds-line-end : goal.slice_bounds-line-end
 slice_bounds-line-end c = omega (arith, line-wide (goal.at.slice_bounds-line-end c).Start, c.requires.0)
 
-pub slice_bounds-put_bytes-end-2 : goal.slice_bounds-put_bytes-end-2
-slice_bounds-put_bytes-end-2 c = sym (length-take-le c.args.held c.args.line (omega (arith, line-wide (goal.at.slice_bounds-put_bytes-end-2 c).Start, c.requires.0)))
+pub slice_bounds-put-end-2 : goal.slice_bounds-put-end-2
+slice_bounds-put-end-2 c = sym (length-take-le c.args.held c.args.line (omega (arith, line-wide (goal.at.slice_bounds-put-end-2 c).Start, c.requires.0)))
 
 pub slice_bounds-stack-end : goal.slice_bounds-stack-end
 slice_bounds-stack-end c = omega (arith, stack-wide (goal.at.slice_bounds-stack-end c).Start, c.requires.1)
@@ -45,4 +45,4 @@ pub returns : goal.returns
 unfolding blank_line
 returns c =
     let a = c.args in
-    laid-is c.args.line a.held a.phase a.reads a.extents c.args.stack c.args.counts c.requires.0 (line-wide (goal.at.returns c).Start) c.requires.1 (stack-wide (goal.at.returns c).Start) _ c.put_bytes.ensures _ c.padded-recent.ensures _ c.padded-counted.ensures
+    laid-is c.args.line a.held a.phase a.reads a.extents c.args.stack c.args.counts c.requires.0 (line-wide (goal.at.returns c).Start) c.requires.1 (stack-wide (goal.at.returns c).Start) _ c.put.ensures _ c.padded-recent.ensures _ c.padded-counted.ensures

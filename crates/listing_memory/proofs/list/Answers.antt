@@ -61,8 +61,8 @@ returns-then-short c =
 pub slice_bounds-bytes-end : goal.slice_bounds-bytes-end
 slice_bounds-bytes-end c = holds (goal.at.slice_bounds-bytes-end c).After-finish-page
 
-pub slice_bounds-put_bytes-end : goal.slice_bounds-put_bytes-end
-slice_bounds-put_bytes-end c = sym (length-take-le _ _ (holds (goal.at.slice_bounds-put_bytes-end c).After-finish-page))
+pub slice_bounds-put-end : goal.slice_bounds-put-end
+slice_bounds-put-end c = sym (length-take-le _ _ (holds (goal.at.slice_bounds-put-end c).After-finish-page))
 
 pub returns-in-Refused : goal.returns-in-Refused
 returns-in-Refused c =
@@ -76,5 +76,5 @@ returns-else-short c =
     let w : 0 + length (take c.finish-page.result.len c.finish-page.result.bytes) ≤ length o = omega (arith, n, c.if-short.false) in
     let e = list_all o _ c.finish-page.result.bytes c.finish-page.result.len (listed (goal.at.returns-else-short c).After-finish-page) (holds (goal.at.returns-else-short c).After-finish-page) (printed (goal.at.returns-else-short c).After-finish-page) c.if-short.false in (
       sym (ap (λ (v : Wrote). v.answer) e),
-      c.put_bytes.ensures ∙ placed-fits _ 0 _ w ∙ ap (put_at o 0) (printed (goal.at.returns-else-short c).After-finish-page) ∙ sym (ap (λ (v : Wrote). v.buffer) e),
+      c.put.ensures ∙ placed-fits _ 0 _ w ∙ ap (put_at o 0) (printed (goal.at.returns-else-short c).After-finish-page) ∙ sym (ap (λ (v : Wrote). v.buffer) e),
     )

@@ -10,4 +10,4 @@ pub returns-then-page-at-2 : goal.returns-then-page-at-2
 returns-then-page-at-2 c = lay-over _ _ _ (omega arith)
 
 pub returns : goal.returns
-returns c = placed-laid _ _ _ _ (omega arith) c.put_bytes.ensures
+returns c = placed-laid _ _ _ _ (omega arith) c.put.ensures

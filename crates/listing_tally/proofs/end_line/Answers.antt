@@ -21,10 +21,10 @@ returns-then-none c =
     end-taken a.reads a.extents a.stack.now a.counts.now a.phase a.line a.held a.rest.now (omega arith) a.rest.now (none-held a.line a.held a.rest.now (omega arith)) _ c.take_line.ensures
 
 pub slice_bounds-take_line-end : goal.slice_bounds-take_line-end
-slice_bounds-take_line-end c = sym (length-take-le _ _ (omega (arith, c.put_bytes.auto.out, line-wide (goal.at.slice_bounds-take_line-end c).Start)))
+slice_bounds-take_line-end c = sym (length-take-le _ _ (omega (arith, c.put.auto.out, line-wide (goal.at.slice_bounds-take_line-end c).Start)))
 
 pub returns : goal.returns
 returns c =
     let a = c.args in
-    let k = c.put_bytes in
+    let k = c.put in
     end-taken a.reads a.extents a.stack.now a.counts.now a.phase a.line a.held a.rest.now (omega arith) _ (rest_put a.line a.held a.rest.now (omega (arith, line-wide (goal.at.returns c).Start)) k.new.out k.ensures) _ c.take_line-2.ensures

@@ -52,7 +52,7 @@ pub returns-then-all-le-LONGEST : goal.returns-then-all-le-LONGEST
 returns-then-all-le-LONGEST c =
     let a = c.args in
     let n = c.line_length-n in
-    way-kept a.bytes.now a.at a.line a.held a.phase a.reads a.extents a.stack.now a.counts.now c.if-bytes-at.false (fits (goal.at.returns-then-all-le-LONGEST c).Else-held-gt-LONGEST) n.result n.ensures _ (rest_of a.at n.result a.bytes.now) c.if-end-bytes.true c.if-all-le-LONGEST.true _ c.put_bytes.ensures _ c.kept-then-all-le-LONGEST.ensures
+    way-kept a.bytes.now a.at a.line a.held a.phase a.reads a.extents a.stack.now a.counts.now c.if-bytes-at.false (fits (goal.at.returns-then-all-le-LONGEST c).Else-held-gt-LONGEST) n.result n.ensures _ (rest_of a.at n.result a.bytes.now) c.if-end-bytes.true c.if-all-le-LONGEST.true _ c.put.ensures _ c.kept-then-all-le-LONGEST.ensures
 
 pub slice_bounds-rest-end : goal.slice_bounds-rest-end
 slice_bounds-rest-end c = (within (goal.at.slice_bounds-rest-end c).After-line_length-n).0

@@ -2,8 +2,5 @@
 use Rattle.split_formed.proofs.Testing.{Remaining}
 use Rattle.split_formed.proofs.all_formed.Given as goal
 
-abbrev pub invariant-loop-left : goal.invariant-loop-left
-invariant-loop-left l = Remaining l.words l.customers l.at l.left
-
-abbrev pub decreases-loop-left : goal.decreases-loop-left
-decreases-loop-left l = l.left
+abbrev pub invariant-loop : goal.invariant-loop
+invariant-loop l = Remaining l.words l.customers l.rest l.counter

@@ -25,9 +25,7 @@ segged : (t : ℕ) (c : In-Seg t) →
     let a = c.args in
     let g = c.in-Seg in
     (seg_at g.reads g.closes (drop g.next a.s.now) ≡ line_at a.under (drop a.at a.s.now)) × (a.at < g.next) × (g.next ≤ length a.s.now)
-segged t c =
-    let f = c.line_at-l in
-    seg-line _ _ c.requires.1.inside _ f.result f.ensures _ _ _ c.in-Seg.is
+segged t c = seg-line _ _ c.requires.1.inside _ c.in-Some.l c.in-Some.ensures _ _ _ c.in-Seg.is
 
 -- the plan there is that seg
 seg-is : (t : ℕ) (c : In-Seg t) →
@@ -49,9 +47,7 @@ joined : (t : ℕ) (c : In-Join t) →
     let a = c.args in
     let g = c.in-Join in
     (join_at (drop g.next a.s.now) ≡ line_at a.under (drop a.at a.s.now)) × (a.at < g.next) × (g.next ≤ length a.s.now)
-joined t c =
-    let f = c.line_at-l in
-    join-line _ _ c.requires.1.inside _ f.result f.ensures _ c.in-Join.is
+joined t c = join-line _ _ c.requires.1.inside _ c.in-Some.l c.in-Some.ensures _ c.in-Join.is
 
 -- the plan there is that join
 abbrev opened : (t : ℕ) (c : In-Join t) →
@@ -180,10 +176,10 @@ loop-done-preserved t c =
           h.result h.new.work h.new.out h.ensures.is h.ensures.work h.ensures.out _ refl,
     )
 
-pub returns-in-Bad : goal.returns-in-Bad
-returns-in-Bad t c =
+pub returns-in_default : goal.returns-in_default
+returns-in_default t c =
     let a = c.args in
-    λ r. some-line a.s.now a.at a.under r.plan r.closes r.rest r.stands (no_line _ _ c.requires.1.inside _ _ c.line_at-l.ensures c.in-Bad.is)
+    λ r. some-line a.s.now a.at a.under r.plan r.closes r.rest r.stands (no_line _ _ c.requires.1.inside _ c.in_default.ensures)
 
 pub returns-in-Seg : goal.returns-in-Seg
 returns-in-Seg t c =
