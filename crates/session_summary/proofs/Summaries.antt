@@ -1,5 +1,5 @@
 -- The summary of a sound session, its misses and its share; and of one that has read a trace.
-use Rattle.std.specs.Prelude.{Result, Ok}
+use Rattle.std.specs.Prelude.{Result, Ok, Err}
 use Rattle.reuse.specs.declared.refusals.Refusal.{Refusal}
 use Rattle.reuse.specs.declared.refusals.Refusal.TheVariants.{Unsound}
 use Prim.Native.Nat.{ℕ, ◌-◌, ◌≤◌}
@@ -13,6 +13,7 @@ use borrow.Author.Tests.{le-leb}
 use Rattle.reuse.specs.Cache.{cache_misses}
 use Rattle.reuse.specs.Summary.{words, summary_of, misses_of, servable_of}
 use Rattle.reuse.specs.Limits.{max_extents, slot_count}
+use Rattle.reuse.proofs.Lists.{by-test}
 use Rattle.reuse_rows.specs.Rows.{padded}
 use Rattle.summary_calls.specs.Calls.{Wrote, wrote, refused, words_call, share_at}
 use Rattle.summary_calls.specs.HitShares.{NoneOf, Between, Full}
@@ -124,6 +125,20 @@ module _ (s : Session) (w : Wide s) (ok : sound s ≡ true) where
     g.1 ∙ ap (λ (q : Wrote). q.buffer) (words-way o m r e f),
   )
 
+-- misses that are told are those of a sound session
+pub misses-told : (s : Session) → Wide s → (c m : ℕ) → misses_call s c ≡ Ok m → (sound s ≡ true) × (m ≡ misses_of (session_words s) c)
+unfolding misses_call
+misses-told s w c m e =
+    by-test (sound s) (λ ok. let q = sym e ∙ misses-given s w ok c in (ok, cc))
+    (λ bad. let q : ◌≡◌ {A = Result ℕ Refusal} (Err Unsound) (Ok m) = simp bad at e in absurd (cc))
+
+-- where they are refused, the share is refused so too
+pub misses-untold : (s : Session) → Wide s → (c : ℕ) (r : Refusal) → misses_call s c ≡ Err r → share_call s c ≡ Err r
+unfolding misses_call share_call
+misses-untold s w c r e =
+    by-test (sound s) (λ ok. let q = sym (misses-given s w ok c) ∙ e in absurd (cc))
+    (λ bad. let q : ◌≡◌ {A = Result ℕ Refusal} (Err Unsound) (Err r) = simp bad at e in let is : r ≡ Unsound = cc in rw is (simp bad))
+
 -- the share of a sound session is 'no reads' exactly where each of its reads is cold
 pub session-none : (s : Session) (c : ℕ) → Wide s → sound s ≡ true → NoneOf (servable_of (session_words s)) (share_call s c)
 unfolding share_call
@@ -133,12 +148,12 @@ session-none s c w ok = rw ok (old.session-none (old_of s) c (ok-old s w ok))
 pub session-between : (s : Session) → Wide s → (c : ℕ) → Between (share_call s c)
 unfolding share_call
 session-between s w c x e =
-    let q = given-share (sound s) (full-calls.share_call (old_of s) c) 7 x e in
+    let q = given-share (sound s) (full-calls.share_call (old_of s) c) Unsound x e in
     old.session-between (old_of s) (old-sound s (sound-facts s w q.0)).0 c x q.1
 
 -- exactly 1 at a size of at least v
 pub session-full : (s : Session) → Wide s → (c : ℕ) → extents s ≤ c → Full (share_call s c)
 unfolding share_call
 session-full s w c l x e =
-    let q = given-share (sound s) (full-calls.share_call (old_of s) c) 7 x e in
+    let q = given-share (sound s) (full-calls.share_call (old_of s) c) Unsound x e in
     old.session-full (old_of s) (old-sound s (sound-facts s w q.0)).0 c l x q.1

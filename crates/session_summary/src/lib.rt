@@ -6,8 +6,9 @@ ghost use Rattle.reuse.specs.Summary.{hits_of};
 ghost use Rattle.session.specs.Sessions.{sound};
 ghost use Rattle.session_summary.specs.Summaries.{session_words, summary_call, misses_call, share_call};
 
+use reuse::Refusal;
 use session::Session;
-use summary_calls::{MissCount, ShareAnswer, Written};
+use summary_calls::HitShare;
 
 // The summary's words at the front of the lent buffer, or the refusal.
 pub fn summary(s: Session, out: &mut [u32]) -> Result<usize, Refusal>
@@ -32,11 +33,7 @@ fn hits(s: Session, size: u32) -> u32
     requires { sound s ≡ true }
     ensures { result ≡ hits_of (session_words s) size }
 {
-    let v = s.count as usize;
-    let mut n = size as usize;
-    if v < n {
-        n = v;
-    }
+    let n = s.count.min(size) as usize;
     let hist = s.hist;
     reuse_rows::total(&hist[..n]) as u32
 }
@@ -45,22 +42,20 @@ fn hits(s: Session, size: u32) -> u32
 pub fn misses(s: Session, size: u32) -> Result<u32, Refusal>
     ensures { result ≡ misses_call s size }
 {
-    if !s.sound() {
-        return Err(Refusal::Unsound);
+    if s.sound() {
+        Ok(s.reads - hits(s, size))
+    } else {
+        Err(Refusal::Unsound)
     }
-    let reads = s.reads;
-    Ok(reads - hits(s, size))
 }
 
 // The share of hits of a cache of this size, of the reads that some size could have served, or the refusal.
 pub fn share(s: Session, size: u32) -> Result<HitShare, Refusal>
     ensures { result ≡ share_call s size }
 {
-    if !s.sound() {
-        return Err(Refusal::Unsound);
-    }
+    let missed = misses(s, size)?;
     let reads = s.reads;
     let servable = reads - s.count;
-    let hit = hits(s, size);
+    let hit = reads - missed;
     Ok(summary_counts::share_of(hit, servable))
 }

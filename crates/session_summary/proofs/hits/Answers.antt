@@ -2,7 +2,10 @@
 use mathlib.Core.Path.{◌≡◌, sym, ap, ◌∙◌}
 use Prim.Native.Nat.{◌≤◌}
 use native.Mathlib.Omega.{arith}
+use lib.Dec.{ltb}
 use lib.ListN.{take}
+use borrow.Author.Tests.{ltb-true, ltb-false}
+use Rattle.reuse.proofs.Lists.{by-test}
 use lib.Seq.{length-take-le, take_all}
 use Rattle.reuse.specs.Limits.{max_extents}
 use Rattle.reuse.specs.Lists.{sum}
@@ -15,7 +18,7 @@ use Rattle.session_calls.proofs.Summaries.{hits-small, hits-large, hits-reads}
 use Rattle.session_summary.proofs.Summaries.{rows, count-extents}
 use borrow.Author.Rules.{rules}
 use Rattle.session_summary.proofs.hits.Goals as goal
-use Rattle.session_summary.proofs.hits.Goals.{After-total, Joined-v-n, Start, then-v-n, else-v-n}
+use Rattle.session_summary.proofs.hits.Goals.{After-total, After-min-n, Start}
 
 -- the widths of the session's arrays
 wide : (c : Start) → Wide c.args.s
@@ -26,39 +29,41 @@ kept : (c : Start) → Wide c.args.s → Kept (old_of c.args.s)
 kept c w = rows c.args.s w c.requires
 
 -- the words of H that are counted; the count is v
-counted : (c : Joined-v-n) → Kept (old_of c.args.s) → c.args.s.count ≡ extents c.args.s
-    → (c.if-v-n.n ≤ extents c.args.s) × (sum (take c.if-v-n.n c.args.s.hist) ≡ hits_of (session_words c.args.s) c.args.size)
+counted : (c : After-min-n) → Kept (old_of c.args.s) → c.args.s.count ≡ extents c.args.s
+    → (c.min-n.result ≤ extents c.args.s) × (sum (take c.min-n.result c.args.s.hist) ≡ hits_of (session_words c.args.s) c.args.size)
 counted c k e =
     let s = c.args.s in
-    elim c.if-v-n.branch [
-      | then-v-n w ↦ rw (w.n-is ∙ e) (omega arith, hits-large (old_of s) k _ (omega (arith, e, w.if-v-n.true)))
-      | else-v-n w ↦ rw w.n-is (omega (arith, e, w.if-v-n.false), hits-small (old_of s) k _ (omega (arith, e, w.if-v-n.false)))
-    ]
+    let n = c.args.size in
+    by-test (ltb s.count n)
+    (λ t. let m : c.min-n.result ≡ s.count = omega (arith, c.min-n.ensures, ltb-true s.count n t) in
+    rw (m ∙ e) (omega arith, hits-large (old_of s) k _ (omega (arith, e, ltb-true s.count n t))))
+    (λ f. let m : c.min-n.result ≡ n = omega (arith, c.min-n.ensures, ltb-false s.count n f) in
+    rw m (omega (arith, e, ltb-false s.count n f), hits-small (old_of s) k _ (omega (arith, e, ltb-false s.count n f))))
 
 -- they are within the limit
-small : (c : Joined-v-n) → Kept (old_of c.args.s) → c.args.s.count ≡ extents c.args.s → c.if-v-n.n ≤ max_extents
+small : (c : After-min-n) → Kept (old_of c.args.s) → c.args.s.count ≡ extents c.args.s → c.min-n.result ≤ max_extents
 small c k e = omega (arith, (counted c k e).0, kept-few (old_of c.args.s) k)
 
 -- their sum is the hits
-hit : (c : After-total) → Wide c.args.s → c.if-v-n.n ≤ max_extents → sum (take c.if-v-n.n c.args.s.hist) ≡ hits_of (session_words c.args.s) c.args.size
+hit : (c : After-total) → Wide c.args.s → c.min-n.result ≤ max_extents → sum (take c.min-n.result c.args.s.hist) ≡ hits_of (session_words c.args.s) c.args.size
     → c.total.result ≡ hits_of (session_words c.args.s) c.args.size
 hit c w few e =
     let h = c.args.s.hist in
     c.total.ensures.0
-    ∙ ap sum (take_all max_extents (take c.if-v-n.n h) (omega (arith, few, length-take-le c.if-v-n.n h (omega (arith, few, w.hist-wide)))))
+    ∙ ap sum (take_all max_extents (take c.min-n.result h) (omega (arith, few, length-take-le c.min-n.result h (omega (arith, few, w.hist-wide)))))
     ∙ e
 
 pub slice_bounds-hist-end : goal.slice_bounds-hist-end
 slice_bounds-hist-end c =
     let b = goal.at.slice_bounds-hist-end c in
     let w = wide b.Start in
-    omega (arith, small b.Joined-v-n (kept b.Start w) (count-extents c.args.s w c.requires), w.hist-wide)
+    omega (arith, small b.After-min-n (kept b.Start w) (count-extents c.args.s w c.requires), w.hist-wide)
 
 pub slice_bounds-total-end : goal.slice_bounds-total-end
 slice_bounds-total-end c =
     let b = goal.at.slice_bounds-total-end c in
     let w = wide b.Start in
-    sym (length-take-le _ _ (omega (arith, small b.Joined-v-n (kept b.Start w) (count-extents c.args.s w c.requires), w.hist-wide)))
+    sym (length-take-le _ _ (omega (arith, small b.After-min-n (kept b.Start w) (count-extents c.args.s w c.requires), w.hist-wide)))
 
 pub overflow_cast-result : goal.overflow_cast-result
 overflow_cast-result c =
@@ -66,7 +71,7 @@ overflow_cast-result c =
     let w = wide b.Start in
     let k = kept b.Start w in
     let e = count-extents c.args.s w c.requires in
-    let h = hit b.After-total w (small b.Joined-v-n k e) (counted b.Joined-v-n k e).1 in
+    let h = hit b.After-total w (small b.After-min-n k e) (counted b.After-min-n k e).1 in
     omega (arith, h, hits-reads (old_of c.args.s) k c.args.size, (sound-facts c.args.s w c.requires).sound.short)
 
 pub returns : goal.returns
@@ -75,4 +80,4 @@ returns c =
     let w = wide b.Start in
     let k = kept b.Start w in
     let e = count-extents c.args.s w c.requires in
-    hit b.After-total w (small b.Joined-v-n k e) (counted b.Joined-v-n k e).1
+    hit b.After-total w (small b.After-min-n k e) (counted b.After-min-n k e).1

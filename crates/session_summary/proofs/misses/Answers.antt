@@ -11,19 +11,19 @@ use Rattle.session_calls.proofs.Summaries.{hits-reads, hits_few}
 use Rattle.session_summary.proofs.Summaries.{rows, misses-given}
 use borrow.Author.Rules.{rules}
 use Rattle.session_summary.proofs.misses.Goals as goal
-use Rattle.session_summary.proofs.misses.Goals.{Else-not-sound, Start}
+use Rattle.session_summary.proofs.misses.Goals.{Then-sound, Start}
 
 -- the widths of the session's arrays
 wide : (c : Start) → Wide c.args.s
 wide c = record { first-wide = search rules; hist-wide = search rules; slots-wide = search rules; rights-wide = search rules }
 
 -- the session is sound
-ok : (c : Else-not-sound) → sound c.args.s ≡ true
-ok c = sym c.sound.ensures ∙ c.if-not-sound.false
+ok : (c : Then-sound) → sound c.args.s ≡ true
+ok c = sym c.sound.ensures ∙ c.if-sound.true
 
-pub returns-then-not-sound : goal.returns-then-not-sound
+pub returns-else-sound : goal.returns-else-sound
 unfolding misses_call
-returns-then-not-sound c = sym (simp (sym c.sound.ensures ∙ c.if-not-sound.true))
+returns-else-sound c = sym (simp (sym c.sound.ensures ∙ c.if-sound.false))
 
 pub hits-requires : goal.hits-requires
 hits-requires c = ok c
@@ -31,13 +31,13 @@ hits-requires c = ok c
 pub overflow_sub-result : goal.overflow_sub-result
 overflow_sub-result c =
     let b = goal.at.overflow_sub-result c in
-    omega (arith, hits_few (old_of c.args.s) (rows c.args.s (wide b.Start) (ok b.Else-not-sound)) _ _ c.hits.ensures)
+    omega (arith, hits_few (old_of c.args.s) (rows c.args.s (wide b.Start) (ok b.Then-sound)) _ _ c.hits.ensures)
 
-pub returns : goal.returns
-returns c =
-    let b = goal.at.returns c in
+pub returns-then-sound : goal.returns-then-sound
+returns-then-sound c =
+    let b = goal.at.returns-then-sound c in
     let s = c.args.s in
     let w = wide b.Start in
-    let o = ok b.Else-not-sound in
+    let o = ok b.Then-sound in
     let n : misses_of (session_words s) c.args.size ≡ s.reads - c.hits.result = omega (arith, c.hits.ensures, hits-reads (old_of s) (rows s w o) c.args.size) in
     sym (misses-given s w o c.args.size ∙ ap Ok n)
