@@ -18,15 +18,18 @@ use Rattle.session_layout.specs.Layout.{session_length, session_in, session_laid
 unfoldable pub new_session : List ℕ → Wrote
 new_session w = wrote (session_laid fresh) w
 
+-- the session in the first words; too few words are no sound session
+unfoldable pub held_in : List ℕ → Result Session Refusal
+held_in w = cond (leb session_length (length w)) (Ok (session_in w)) (Err Unsound)
+
 -- a read of the session in the first words; too few words are no sound session
 unfoldable pub read_in : List ℕ → ℕ → Step
 read_in w x = cond (leb session_length (length w)) (read_of (session_in w) x) (read_refused (session_in w) Unsound)
 
 -- the words after a read: the session's at their front; a refusal leaves them as they were
 abbrev pub session_left : Result Answer Refusal → Session → List ℕ → List ℕ
-session_left (Ok (Cold n k)) s w = put_at w 0 (session_laid s)
-session_left (Ok (Distance d n k)) s w = put_at w 0 (session_laid s)
-session_left (Err n) s w = w
+session_left (Ok a) s w = put_at w 0 (session_laid s)
+session_left (Err r) s w = w
 
 -- the summary of the session in the first words; too few words are no sound session
 unfoldable pub summary_in : List ℕ → List ℕ → Wrote
@@ -39,9 +42,3 @@ misses_in w c = cond (leb session_length (length w)) (misses_call (session_in w)
 -- the hit share at size c of the session in the first words; too few words are no sound session
 unfoldable pub share_in : List ℕ → ℕ → Result HitShare Refusal
 share_in w c = cond (leb session_length (length w)) (share_call (session_in w) c) (Err Unsound)
-
--- a read was accepted
-abbrev pub is_read : Result Answer Refusal → Bool
-is_read (Ok (Cold n k)) = true
-is_read (Ok (Distance d n k)) = true
-is_read (Err n) = false

@@ -2,29 +2,19 @@
 #![tactic(auto)]
 
 ghost use Rattle.std.specs.Prelude.{◌≡◌};
-ghost use Rattle.session_words.specs.Calls.{new_session, read_in, session_left, summary_in, misses_in, share_in, is_read};
+ghost use Rattle.session_words.specs.Calls.{new_session, held_in, read_in, session_left, summary_in, misses_in, share_in};
 
+use reuse::Refusal;
 use session::Session;
 use session_calls::Answer;
 use session_layout::SESSION;
-use summary_calls::{MissCount, ShareAnswer, Written};
+use summary_calls::HitShare;
 
-// Whether a read was accepted.
-fn accepted(a: &Answer) -> bool
-    ensures { result ≡ is_read a.now }
+// The session in the words; too few words are no sound session.
+fn session_in(words: &[u32]) -> Result<Session, Refusal>
+    ensures { result ≡ held_in words.now }
 {
-    match a {
-        Answer::Cold {
-            number: _,
-            slots_looked: _,
-        } => true,
-        Answer::Distance {
-            distance: _,
-            sums_read: _,
-            slots_looked: _,
-        } => true,
-        Err(_) => false,
-    }
+    session_layout::session_in(words).ok_or(Refusal::Unsound)
 }
 
 // A new session's words at the front of the row.
@@ -34,62 +24,39 @@ pub fn new_session(words: &mut [u32]) -> Result<usize, Refusal>
     if words.len() < SESSION {
         return Err(Refusal::NoRoom);
     }
-    let s = Session::new();
-    session_layout::put_session(words, s);
+    session_layout::put_session(words, Session::new());
     Ok(SESSION)
 }
 
 // A read of the extent by the session in the words.
-pub fn read(words: &mut [u32], extent: u32) -> Answer
+pub fn read(words: &mut [u32], extent: u32) -> Result<Answer, Refusal>
     ensures { (result ≡ (read_in words.old extent).answer) × (words.new ≡ session_left (read_in words.old extent).answer (read_in words.old extent).session words.old) }
 {
-    let kept = session_layout::session_in(words);
-    if !kept.enough {
-        return Err(Refusal::Unsound);
+    let session = session_in(words)?;
+    let step = session.read(extent);
+    if step.answer.is_ok() {
+        session_layout::put_session(words, step.session);
     }
-    let s = kept.session;
-    let step = s.read(extent);
-    let answer = step.answer;
-    if !accepted(&answer) {
-        return answer;
-    }
-    let after = step.session;
-    session_layout::put_session(words, after);
-    answer
+    step.answer
 }
 
 // The summary of the session in the words, at the front of `out`.
 pub fn summary(words: &[u32], out: &mut [u32]) -> Result<usize, Refusal>
     ensures { (result ≡ (summary_in words.now out.old).answer) × (out.new ≡ (summary_in words.now out.old).buffer) }
 {
-    let kept = session_layout::session_in(words);
-    if !kept.enough {
-        return Err(Refusal::Unsound);
-    }
-    let s = kept.session;
-    session_summary::summary(s, out)
+    session_summary::summary(session_in(words)?, out)
 }
 
 // The misses of a cache of this size that reads the log of the session in the words.
 pub fn misses(words: &[u32], size: u32) -> Result<u32, Refusal>
     ensures { result ≡ misses_in words.now size }
 {
-    let kept = session_layout::session_in(words);
-    if !kept.enough {
-        return Err(Refusal::Unsound);
-    }
-    let s = kept.session;
-    session_summary::misses(s, size)
+    session_summary::misses(session_in(words)?, size)
 }
 
 // The hit share of a cache of this size that reads the log of the session in the words.
 pub fn share(words: &[u32], size: u32) -> Result<HitShare, Refusal>
     ensures { result ≡ share_in words.now size }
 {
-    let kept = session_layout::session_in(words);
-    if !kept.enough {
-        return Err(Refusal::Unsound);
-    }
-    let s = kept.session;
-    session_summary::share(s, size)
+    session_summary::share(session_in(words)?, size)
 }

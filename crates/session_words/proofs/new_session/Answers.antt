@@ -15,5 +15,5 @@ pub returns : goal.returns
 returns c =
     let e = new-all _ c.if-words-lt-SESSION.false in (
       sym (ap (λ (v : Wrote). v.answer) e),
-      c.put_session.ensures ∙ ap (λ s. placed c.args.words.now 0 (session_laid s)) c.new-s.ensures ∙ sym (ap (λ (v : Wrote). v.buffer) e),
+      c.put_session.ensures ∙ ap (λ s. placed c.args.words.now 0 (session_laid s)) c.new.ensures ∙ sym (ap (λ (v : Wrote). v.buffer) e),
     )

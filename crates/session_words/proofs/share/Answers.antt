@@ -1,18 +1,12 @@
 -- `session_words::share` meets its contract.
-use mathlib.Core.Path.{sym, ap, ◌∙◌}
-use borrow.Author.Tests.{not-true, not-false}
-use Rattle.session.specs.declared.Session.{Session}
-use Rattle.session_layout.proofs.Enough.{kept-few, kept-enough, kept-session}
-use Rattle.session_summary.specs.Summaries.{share_call}
-use Rattle.session_words.proofs.Kept.{share-short, share-all}
+use Rattle.std.proofs.Common.{sym, ◌∙◌}
+use Rattle.reuse.proofs.Told.{handed_on}
+use Rattle.session_words.proofs.Kept.{share-held, share-unheld}
 use Rattle.session_words.proofs.share.Goals as goal
 
-pub returns-then-not-kept : goal.returns-then-not-kept
-returns-then-not-kept c = sym (share-short _ (kept-few _ _ c.session_in-kept.ensures (not-true _ c.if-not-kept.true)) _)
+pub returns-in_err-session_in : goal.returns-in_err-session_in
+returns-in_err-session_in c =
+    handed_on _ _ c.from_residual.ensures.1 ∙ sym (share-unheld _ (sym c.session_in.ensures ∙ c.in_err-session_in.was) _)
 
 pub returns : goal.returns
-returns c =
-    let k = c.session_in-kept.ensures in
-    let h = not-false _ c.if-not-kept.false in
-    let size = c.args.size in
-    c.share.ensures ∙ ap (λ (s : Session). share_call s size) (kept-session _ _ k h) ∙ sym (share-all _ (kept-enough _ _ k h) size)
+returns c = c.share.ensures ∙ share-held _ (sym c.session_in.ensures ∙ c.in_ok-session_in.was) _
