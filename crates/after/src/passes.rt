@@ -26,12 +26,11 @@ pub fn trace(stack: &mut [u32], n: usize, reads: &[u32], out: &mut [u32])
     ensures { out.new ≡ map word_of (reuses (take n stack.old) reads.now) ++ drop (length reads.now) out.old }
 {
     let mut held = n;
-    let mut i: usize = 0;
-    while i < reads.len() {
-        let place = reuse_engine::touch(stack, held, reads[i]);
+    for (i, &x) in reads.iter().enumerate() {
+        let place = reuse_engine::touch(stack, held, x);
         match place {
             Place::Cold => {
-                held = held + 1;
+                held += 1;
                 out[i] = reuse::COLD_BASE + held as u32;
             }
             Place::Depth(d) => {
@@ -44,6 +43,5 @@ pub fn trace(stack: &mut [u32], n: usize, reads: &[u32], out: &mut [u32])
                 return;
             }
         }
-        i = i + 1;
     }
 }

@@ -33,15 +33,15 @@ fn search(counts: &[u32], reads: u32, misses: u32) -> Result<SmallestCache, Refu
     ensures { result ≡ found_by (searched misses reads counts.now) }
 {
     let mut left = reads;
-    let mut size: usize = 0;
+    let mut size: u32 = 0;
     let mut words_read: u32 = 0;
-    while size < counts.len() && misses < left {
-        left = left - counts[size];
-        words_read = words_read + 1;
-        size = size + 1;
+    for &count in counts {
+        if left <= misses {
+            break;
+        }
+        left -= count;
+        words_read += 1;
+        size += 1;
     }
-    SizeAnswer::Size {
-        size: size as u32,
-        words_read,
-    }
+    SizeAnswer::Size { size, words_read }
 }

@@ -54,13 +54,9 @@ module _ (t : List ℕ) (p : ℕ) (placed : p ≤ length t) (short : length t �
   from_all : take (length t - p) (drop p t) ≡ drop p t
   from_all = take_all (length t - p) (drop p t) (omega (arith, length-drop p t))
 
-  -- the reads before the place, as the code has them
-  front-all : take (p - 0) t ≡ take p t
-  front-all = let z : p - 0 ≡ p = omega arith in rw z
-
-  -- they are ready to be taken from a row of words
-  pub front-ready : (blank : List ℕ) → length blank ≡ max_extents → Ready blank 0 (take (p - 0) t)
-  front-ready blank w = ready-blank blank (take (p - 0) t) w (rw front-all (omega (arith, length-take-le p t placed)))
+  -- the reads before the place are ready to be taken from a row of words
+  pub front-ready : (blank : List ℕ) → length blank ≡ max_extents → Ready blank 0 (take p t)
+  front-ready blank w = ready-blank blank (take p t) w (omega (arith, length-take-le p t placed))
 
   -- the stack after the whole trace, from the place on
   plain-stack : stack t ≡ foldl touch here (drop p t)
@@ -74,11 +70,11 @@ module _ (t : List ℕ) (p : ℕ) (placed : p ≤ length t) (short : length t �
     plain_over m = sym (call-extents t p x c placed room (omega (arith, extents-put p x t, length-stack t)))
 
     -- after the reads before the place
-    module _ (blank row : List ℕ) (held : ℕ) (first : Held blank 0 (take (p - 0) t) row held) where
+    module _ (blank row : List ℕ) (held : ℕ) (first : Held blank 0 (take p t) row held) where
       -- what is held, to one more than the limit
       held-is : held ≡ min (length here) (suc max_extents)
       unfolding stack
-      held-is = rw front-all at first.extents
+      held-is = first.extents
 
       -- too many extents
       pub first-over : max_extents < held → Err TooManyExtents ≡ insertion_call t p x c
@@ -89,16 +85,12 @@ module _ (t : List ℕ) (p : ℕ) (placed : p ≤ length t) (short : length t �
         -- the stack stands in the row
         at_here : take held row ≡ here
         unfolding stack
-        at_here = rw front-all at (first.front few)
-
-        -- as the code has it
-        part-here : take (held - 0) row ≡ here
-        part-here = let z : held - 0 ≡ held = omega arith in rw z at_here
+        at_here = first.front few
 
         -- the extents above x
-        module _ (ahead : ℕ) (found : ahead ≡ length (before x (take (held - 0) row))) where
+        module _ (ahead : ℕ) (found : ahead ≡ length (before x (take held row))) where
           above-is : ahead ≡ length (before x here)
-          above-is = found ∙ rw part-here
+          above-is = rw at_here at found
 
           -- the reads from the place on are ready to be followed
           pub follow-ready : Ahead row held (take (length t - p) (drop p t)) x ahead

@@ -21,24 +21,17 @@ pub fn one_more(trace: &[u32], place: usize, extent: u32, size: u32) -> Result<i
         return Err(Refusal::TooManyReads);
     }
     let mut stack = [0u32; reuse::MAX_EXTENTS];
-    let before = passes::hold(&mut stack, 0, &trace[0..place]);
+    let before = passes::hold(&mut stack, 0, &trace[..place]);
     if reuse::MAX_EXTENTS < before {
         return Err(Refusal::TooManyExtents);
     }
-    let ahead = passes::ahead(&stack[0..before], extent);
-    let traced = passes::follow(
-        &mut stack,
-        before,
-        &trace[place..reads],
-        extent,
-        size,
-        ahead,
-    );
+    let ahead = passes::ahead(&stack[..before], extent);
+    let traced = passes::follow(&mut stack, before, &trace[place..], extent, size, ahead);
     if reuse::MAX_EXTENTS < traced.held {
         return Err(Refusal::TooManyExtents);
     }
     let next = place + traced.taken;
-    let held = passes::hold(&mut stack, traced.held, &trace[next..reads]);
+    let held = passes::hold(&mut stack, traced.held, &trace[next..]);
     let known = ahead < before;
     let again = next < reads;
     let over = reuse::MAX_EXTENTS < passes::extents_with(held, known, again);

@@ -28,14 +28,7 @@ pub struct Traced {
 pub fn ahead(row: &[u32], extent: u32) -> usize
     ensures { result ≡ length (before extent row.now) }
 {
-    let mut i: usize = 0;
-    while i < row.len() {
-        if row[i] == extent {
-            return i;
-        }
-        i = i + 1;
-    }
-    i
+    row.iter().position(|&x| x == extent).unwrap_or(row.len())
 }
 
 // The reads are taken after the stack in the first n words: how many extents are held then, or one more than the limit.
@@ -44,12 +37,11 @@ pub fn hold(stack: &mut [u32], n: usize, reads: &[u32]) -> usize
     ensures { Held stack.old n reads.now stack.new result }
 {
     let mut held = n;
-    let mut i: usize = 0;
-    while i < reads.len() {
-        let place = reuse_engine::touch(stack, held, reads[i]);
+    for &x in reads {
+        let place = reuse_engine::touch(stack, held, x);
         match place {
             Place::Cold => {
-                held = held + 1;
+                held += 1;
             }
             Place::Depth(_) => {}
             Place::Full => {
@@ -59,7 +51,6 @@ pub fn hold(stack: &mut [u32], n: usize, reads: &[u32]) -> usize
                 return held;
             }
         }
-        i = i + 1;
     }
     held
 }
@@ -78,34 +69,32 @@ pub fn follow(
 {
     let mut held = n;
     let mut marks = at_place(ahead);
-    let mut i: usize = 0;
-    while i < reads.len() {
-        if reads[i] == extent {
-            break;
+    for (taken, &x) in reads.iter().enumerate() {
+        if x == extent {
+            return Traced { held, taken, marks };
         }
-        let place = reuse_engine::touch(stack, held, reads[i]);
+        let place = reuse_engine::touch(stack, held, x);
         match place {
             Place::Cold => {
-                held = held + 1;
+                held += 1;
                 marks = with_newcomer(marks);
             }
             Place::Depth(d) => {
                 marks = with_known(marks, d, size as usize);
             }
             Place::Full => {
-                held = reuse::MAX_EXTENTS + 1;
-                break;
+                let held = reuse::MAX_EXTENTS + 1;
+                return Traced { held, taken, marks };
             }
             Place::BadCount => {
-                break;
+                return Traced { held, taken, marks };
             }
         }
-        i = i + 1;
     }
     Traced {
-        held: held,
-        taken: i,
-        marks: marks,
+        held,
+        taken: reads.len(),
+        marks,
     }
 }
 
@@ -147,12 +136,12 @@ fn with_known(m: Marks, d: usize, size: usize) -> Marks
     }
     let mut spoiled = m.spoiled;
     if d == size {
-        spoiled = spoiled + 1;
+        spoiled += 1;
     }
     Marks {
         since: m.since + 1,
         depth: m.depth,
-        spoiled: spoiled,
+        spoiled,
     }
 }
 
@@ -160,10 +149,7 @@ fn with_known(m: Marks, d: usize, size: usize) -> Marks
 fn missed(known: bool, depth: usize, size: usize) -> u64
     ensures { result ≡ miss_at known depth size }
 {
-    if !known {
-        return 1;
-    }
-    if depth <= size {
+    if known && depth <= size {
         return 0;
     }
     1
@@ -197,10 +183,7 @@ pub fn extents_with(held: usize, known: bool, again: bool) -> usize
     requires { held ≤ suc max_extents }
     ensures { result ≡ cond (known || again) 0 1 + held }
 {
-    if known {
-        return held;
-    }
-    if again {
+    if known || again {
         return held;
     }
     held + 1

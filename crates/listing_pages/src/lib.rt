@@ -31,14 +31,12 @@ fn put_rows(page: &mut [u8], at: usize, reads: u32, counts: &[u32]) -> usize
 {
     let mut next = at;
     let mut misses = reads;
-    let mut i: usize = 0;
-    while i < counts.len() {
-        misses = misses - counts[i];
+    for (i, &count) in counts.iter().enumerate() {
+        misses -= count;
         let size = i + 1;
         let rows = counts.len() - size;
         let shown = size as u32;
         next = listing_rows::put_at(page, next, shown, misses, rows);
-        i = size;
     }
     next
 }

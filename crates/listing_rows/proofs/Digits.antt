@@ -46,31 +46,30 @@ module _ (n : ℕ) (digits : List ℕ) (first left : ℕ) (h : Digits n digits f
       (λ e. let b : length (decimal (left / 10)) + 1 ≤ first = simp (decimal-long left (ltb-false left 10 e), length-append) at h.room in omega arith)
 
   -- the last of those left is made
-  pub digits-turn : (x : ℕ) → x ≡ 48 + left % 10 → 10 ≤ left → Digits n (set digits (first - 1) x) (first - 1) (left / 10)
-  digits-turn x e g =
+  pub digits-turn : (left / 10 ≡ 0 → ⊥) → Digits n (set digits (first - 1) (48 + left % 10)) (first - 1) (left / 10)
+  digits-turn f =
+      let g : 10 ≤ left = omega arith in
       let b : length (decimal (left / 10)) + 1 ≤ first = simp (decimal-long left g, length-append) at h.room in
       let s : suc (first - 1) ≡ first = omega arith in
       record {
         long = simp length-set h.long;
         within = omega (arith, h.within);
         room = omega arith;
-        same = rw (drop-set digits (first - 1) x (omega (arith, h.long, h.within)), s, e)
+        same = rw (drop-set digits (first - 1) (48 + left % 10) (omega (arith, h.long, h.within)), s)
             (sym (append_assoc (decimal (left / 10)) ((48 + left % 10) ∷ []) (drop first digits)) ∙ rw (decimal-long left g) at h.same);
       }
 
   -- the first of all is made
-  digits-end : (x : ℕ) → x ≡ 48 + left → left < 10 → take (10 - (first - 1)) (drop (first - 1) (set digits (first - 1) x)) ≡ decimal n
-  digits-end x e g =
+  digits-end : left / 10 ≡ 0 → take (10 - (first - 1)) (drop (first - 1) (set digits (first - 1) (48 + left % 10))) ≡ decimal n
+  digits-end e =
       let b = digits-room in
+      let g : left < 10 = omega arith in
+      let m : left % 10 ≡ left = omega arith in
       let s : suc (first - 1) ≡ first = omega arith in
-      take_all (10 - (first - 1)) (drop (first - 1) (set digits (first - 1) x)) (simp (length-drop, length-set) (omega (arith, h.long)))
-      ∙ rw (drop-set digits (first - 1) x (omega (arith, h.long, h.within)), s, e) (rw (decimal-short left g) at h.same)
+      take_all (10 - (first - 1)) (drop (first - 1) (set digits (first - 1) (48 + left % 10))) (simp (length-drop, length-set) (omega (arith, h.long)))
+      ∙ rw (drop-set digits (first - 1) (48 + left % 10) (omega (arith, h.long, h.within)), s, m) (rw (decimal-short left g) at h.same)
 
   -- all are laid
-  pub digits-laid : (x : ℕ) → x ≡ 48 + left → left < 10 → (d : Laid) {e : Laid}
-      → e ≡ lay d (take (10 - (first - 1)) (drop (first - 1) (set digits (first - 1) x))) → e ≡ lay d (decimal n)
-  digits-laid x e g d p = p ∙ ap (lay d) (digits-end x e g)
-
-  -- the row of digits keeps its length
-  pub digits_long : (x : ℕ) → number_room ≤ length (set digits (first - 1) x)
-  digits_long x = simp length-set (omega (arith, h.long))
+  pub digits-laid : left / 10 ≡ 0 → (d : Laid) {e : Laid}
+      → e ≡ lay d (take (10 - (first - 1)) (drop (first - 1) (set digits (first - 1) (48 + left % 10)))) → e ≡ lay d (decimal n)
+  digits-laid e d p = p ∙ ap (lay d) (digits-end e)

@@ -19,13 +19,13 @@ unfolding lay
 lay-fits was at l h = rw (le-leb (at + length l) (length was) h)
 
 -- one that does not
-pub lay-over : (was : List ℕ) (at : ℕ) (l : List ℕ) → length was < at + length l → laid_at was at ≡ lay (laid_at was at) l
+pub lay_over : (was : List ℕ) (at : ℕ) (l : List ℕ) → length was < at + length l → laid_at was at ≡ lay (laid_at was at) l
 unfolding lay
-lay-over was at l h = rw (lt-leb (at + length l) (length was) h)
+lay_over was at l h = rw (lt-leb (at + length l) (length was) h)
 
 -- bytes placed are laid
-pub placed-laid : (was : List ℕ) (at : ℕ) (l page : List ℕ) → at + length l ≤ length was → page ≡ placed was at l → laid_at page (at + length l) ≡ lay (laid_at was at) l
-placed-laid was at l page h e =
+pub placed_laid : (was : List ℕ) (at : ℕ) (l page : List ℕ) → at + length l ≤ length was → page ≡ placed was at l → laid_at page (at + length l) ≡ lay (laid_at was at) l
+placed_laid was at l page h e =
     ap (λ (p : List ℕ). laid_at p (at + length l)) (e ∙ placed-fits was at l h) ∙ sym (lay-fits was at l h)
 
 -- a piece, and then another

@@ -7,25 +7,15 @@ ghost use Rattle.listing_texts.specs.Pages.{row_closes, line_end};
 ghost use Rattle.listing_rows.specs.Laying.{laid_at, lay, lay_all, named_pieces, row_pieces};
 
 // The bytes are laid from place `at` on; the answer is the place after them, or `at` where they do not fit.
+#[tactic(auto, using(crate::proofs::Laying::lay_over))]
 fn put(page: &mut [u8], at: usize, bytes: &[u8]) -> usize
     ensures { laid_at page.new result ≡ lay (laid_at page.old at) bytes.now }
 {
-    if page.len() < at {
-        return at;
-    }
-    if page.len() - at < bytes.len() {
+    if page.len() < at || page.len() - at < bytes.len() {
         return at;
     }
     reuse_copies::put(page, at, bytes);
     at + bytes.len()
-}
-
-// The byte of a digit.
-fn digit(n: u32) -> u8
-    requires { n ≤ 9 }
-    ensures { result ≡ 48 + n }
-{
-    48 + n as u8
 }
 
 // The digits of a number are laid from place `at` on; they are made from the last to the first.
@@ -33,15 +23,16 @@ fn put_number(page: &mut [u8], at: usize, n: u32) -> usize
     ensures { laid_at page.new result ≡ lay (laid_at page.old at) (decimal n) }
 {
     let mut digits = [0u8; 10];
-    let mut first: usize = 10;
+    let mut first = digits.len();
     let mut left = n;
-    while 10 <= left {
-        first = first - 1;
-        digits[first] = digit(left % 10);
-        left = left / 10;
+    loop {
+        first -= 1;
+        digits[first] = b'0' + (left % 10) as u8;
+        left /= 10;
+        if left == 0 {
+            break;
+        }
     }
-    first = first - 1;
-    digits[first] = digit(left);
     put(page, at, &digits[first..])
 }
 

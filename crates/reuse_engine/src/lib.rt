@@ -36,15 +36,12 @@ pub fn touch(stack: &mut [u32], n: usize, x: u32) -> Place
     }
     let passed = pass(stack, n, x);
     let mut carry = passed.carry;
-    let mut i = passed.count;
-    while i < n {
-        let y = stack[i];
-        stack[i] = carry;
+    for i in passed.count..n {
+        let y = std::mem::replace(&mut stack[i], carry);
         if y == x {
             return Place::Depth(i + 1);
         }
         carry = y;
-        i = i + 1;
     }
     if n < stack.len() {
         stack[n] = carry;
@@ -60,18 +57,17 @@ fn pass(stack: &mut [u32], n: usize, x: u32) -> Passed
     ensures { Sunk stack.old x n stack.new result.carry result.count }
 {
     let mut carry = x;
-    let mut i: usize = 0;
-    while BLOCK <= n - i {
+    for block in 0..n / BLOCK {
+        let i = block * BLOCK;
         let end = i + BLOCK;
         if reuse_rows::contains(&stack[i..end], x) {
-            break;
+            return Passed { count: i, carry };
         }
         carry = down(&mut stack[i..end], carry);
-        i = end;
     }
     Passed {
-        count: i,
-        carry: carry,
+        count: n / BLOCK * BLOCK,
+        carry,
     }
 }
 
@@ -80,12 +76,8 @@ fn down(row: &mut [u32], first: u32) -> u32
     ensures { Shifted row.old first row.new result (length row.old) }
 {
     let mut carry = first;
-    let mut i: usize = 0;
-    while i < row.len() {
-        let y = row[i];
-        row[i] = carry;
-        carry = y;
-        i = i + 1;
+    for word in row.iter_mut() {
+        carry = std::mem::replace(word, carry);
     }
     carry
 }
@@ -94,12 +86,10 @@ fn down(row: &mut [u32], first: u32) -> u32
 fn move_back(stack: &mut [u32], last: u32)
     ensures { stack.new ≡ drop 1 (stack.old ++ (last ∷ [])) }
 {
-    let mut carry = last;
-    let mut i = stack.len();
-    while 0 < i {
-        i = i - 1;
-        let y = stack[i];
-        stack[i] = carry;
-        carry = y;
+    let n = stack.len();
+    if n == 0 {
+        return;
     }
+    stack.copy_within(1.., 0);
+    stack[n - 1] = last;
 }

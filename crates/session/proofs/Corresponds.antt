@@ -9,12 +9,13 @@ use Rattle.reuse.specs.Lists.{sum}
 use Rattle.reuse.specs.Limits.{max_reads, max_extents, slot_count, right_count, levels}
 use Rattle.session_sums.specs.Sums.{sums_of}
 use Rattle.session_rights.specs.Rights.{rights_of, marks_from, rightly, Gives}
+use Rattle.session_soundness.specs.declared.Fields.{Fields}
 use Rattle.session_soundness.specs.Soundness.{sound_rows, intact_rows}
 use Rattle.session_calls.specs.Sessions as full
 use Rattle.session_calls.specs.Sessions.{FullSession, FullWide}
 use Rattle.session_calls.specs.Reads as full-reads
 use Rattle.session.specs.declared.Session.{Session}
-use Rattle.session.specs.Sessions.{Wide, new_of, marks, old_of, fresh, sound}
+use Rattle.session.specs.Sessions.{Lent, Wide, new_of, marks, old_of, fresh, sound}
 use Rattle.session.specs.Reads.{new_step, read_of}
 use Rattle.session.specs.Steps.{Summed}
 use Rattle.reuse.proofs.Lists.{both}
@@ -58,6 +59,10 @@ module _ (s : Session) where
   pub tested : Wide s → intact_rows s.reads s.first s.hist s.slots s.count s.rights s.next ≡ sound s
   unfolding sound marks
   tested w = fields.intact-wide s.first s.hist s.slots s.count s.rights (fields-wide w) s.reads s.next
+
+  -- so is that of fields that are a session's
+  pub lent-tested : Wide s → (f : Fields) → Lent s f → intact_rows f.reads f.first.now f.hist.now f.slots.now f.count f.rights.now f.next ≡ sound s
+  lent-tested w f l = rw (l.reads, l.first, l.hist, l.slots, l.count, l.rights, l.next) (tested w)
 
   module _ (f : Facts s) where
     -- the marks of the old session are those worked out

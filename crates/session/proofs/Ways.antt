@@ -21,8 +21,9 @@ use Rattle.session_calls.specs.Sessions as full
 use Rattle.session_calls.specs.Sessions.{FullSession}
 use Rattle.session_calls.specs.Reads as full-reads
 use Rattle.session_calls.specs.Reads.{step_at, taken, too_many}
+use Rattle.session_soundness.specs.declared.Fields.{Fields}
 use Rattle.session.specs.declared.Session.{Session}
-use Rattle.session.specs.Sessions.{Wide, new_of, marks, old_of, sound}
+use Rattle.session.specs.Sessions.{Lent, Wide, new_of, marks, old_of, sound}
 use Rattle.session.specs.Reads.{new_step, gathered, slot_of, looked_at, refused, read_of}
 use Rattle.session.specs.Steps.{Summed, Movable, Enterable, Gatherable}
 use Rattle.reuse.proofs.Lists.{by-test}
@@ -130,6 +131,11 @@ over s f x = ap (λ (l : List ℕ). overfull s.slots l x) (sym (unfold marks in 
 -- what refuses a read of x
 abbrev refusal : Session → ℕ → Option Refusal
 refusal s x = refusal_of s.reads s.first s.hist s.slots s.count s.rights s.next x
+
+-- fields that are a session's are refused as it is
+pub lent-refusal : (s : Session) (f : Fields) → Lent s f → (x : ℕ)
+    → refusal_of f.reads f.first.now f.hist.now f.slots.now f.count f.rights.now f.next x ≡ refusal_of s.reads s.first s.hist s.slots s.count s.rights s.next x
+lent-refusal s f l x = rw (l.reads, l.first, l.hist, l.slots, l.count, l.rights, l.next)
 
 -- what is known of a session that accepts a read of x
 pub record Accepted (s : Session) (x : ℕ) : Type 0 where

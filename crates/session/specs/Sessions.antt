@@ -3,6 +3,7 @@ use Rattle.std.specs.Prelude.{ℕ, ◌≡◌, List, Bool, ◌&&◌, length, repl
 use Rattle.reuse.specs.Limits.{max_extents, slot_count, right_count, levels}
 use Rattle.session_sums.specs.Sums.{sums_of}
 use Rattle.session_rights.specs.Rights.{rights_of, marks_from, rightly}
+use Rattle.session_soundness.specs.declared.Fields.{Fields}
 use Rattle.session_soundness.specs.Soundness.{sound_rows}
 use Rattle.session_calls.specs.Sessions as full
 use Rattle.session_calls.specs.Sessions.{FullSession}
@@ -26,6 +27,16 @@ pub record Wide (s : Session) : Type 0 where
   pub hist-wide : length s.hist ≡ max_extents
   pub slots-wide : length s.slots ≡ slot_count
   pub rights-wide : length s.rights ≡ right_count
+
+-- fields that are a session's
+pub record Lent (s : Session) (f : Fields) : Type 0 where
+  pub reads : f.reads ≡ s.reads
+  pub first : f.first.now ≡ s.first
+  pub hist : f.hist.now ≡ s.hist
+  pub slots : f.slots.now ≡ s.slots
+  pub count : f.count ≡ s.count
+  pub rights : f.rights.now ≡ s.rights
+  pub next : f.next ≡ s.next
 
 -- the new session of an old one: the count of its marks and their right-hand sums; all else as it is
 abbrev pub new_of : FullSession → Session

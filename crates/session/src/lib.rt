@@ -6,12 +6,13 @@ ghost use Rattle.reuse.specs.Lists.{sum};
 ghost use Rattle.reuse.specs.Lru.{cold, at};
 ghost use Rattle.session_calls.specs.Sessions as full;
 ghost use Rattle.session_calls.specs.Reads.{step_at};
-ghost use Rattle.session.specs.Sessions.{fresh, old_of, sound};
+ghost use Rattle.session.specs.Sessions.{fresh, old_of, sound, Lent};
 ghost use Rattle.session.specs.Reads.{new_step, gathered, refused, read_of};
 ghost use Rattle.session.specs.Steps.{Gatherable, Movable, Enterable};
 
 use reuse::{MAX_EXTENTS, RIGHTS, Refusal, SLOTS};
 use session_calls::Answer;
+use session_soundness::Fields;
 
 // One less, modulo 2^32.
 const ONE_LESS: u32 = 4294967295;
@@ -51,22 +52,26 @@ impl Session {
         }
     }
 
+    // Its fields, borrowed.
+    fn fields(&self) -> Fields<'_>
+        ensures { Lent self.now result }
+    {
+        Fields {
+            reads: self.reads,
+            first: &self.first,
+            hist: &self.hist,
+            slots: &self.slots,
+            count: self.count,
+            rights: &self.rights,
+            next: self.next as usize,
+        }
+    }
+
     // Whether the session is sound.
     pub fn sound(self) -> bool
         ensures { result ≡ sound self }
     {
-        let upto = self.next as usize;
-        let counted = self.reads;
-        let marked = self.count;
-        session_soundness::intact(
-            &self.first,
-            &self.hist,
-            &self.slots,
-            marked,
-            &self.rights,
-            upto,
-            counted,
-        )
+        self.fields().intact()
     }
 
     // The marks moved, in order, to the first slots.
@@ -167,18 +172,7 @@ impl Session {
         ensures { result ≡ read_of self extent }
     {
         let next = self.next as usize;
-        let reads = self.reads;
-        let count = self.count;
-        let refusal = session_refusals::refusal(
-            &self.first,
-            &self.hist,
-            &self.slots,
-            count,
-            &self.rights,
-            next,
-            reads,
-            extent,
-        );
+        let refusal = session_refusals::refusal(self.fields(), extent);
         if let Some(why) = refusal {
             return self.refused(why);
         }

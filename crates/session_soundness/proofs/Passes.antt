@@ -1,5 +1,5 @@
 -- Laws of a row that a loop tests: whether it is tidy.
-use Rattle.std.proofs.Common.{◌≡◌, ℕ, zero, suc, ◌+◌, ◌<◌, Bool, true, false, ◌&&◌, ◌||◌, eqb, leb, List, [], ◌∷◌, length, get_or, drop, refl, sym, ap, ◌∙◌, arith, add-one, drop-cons, drop_of_length-le, ne_eqb}
+use Rattle.std.proofs.Common.{◌≡◌, ℕ, zero, suc, ◌+◌, ◌<◌, Bool, ◌&&◌, ◌||◌, eqb, leb, List, ◌∷◌, length, get_or, drop, refl, sym, ap, ◌∙◌, arith, add-one, drop-cons, drop_of_length-le, ne_eqb}
 use mathlib.Core.Bool.{and_assoc}
 use borrow.Author.Tests.{lt-leb}
 use Rattle.session_marks.specs.Marks.{tidy}

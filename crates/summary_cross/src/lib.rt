@@ -23,13 +23,8 @@ pub fn counts(recent: &[u32], first: &[u32], before: &[u32], after: &[u32]) -> [
 fn add(row: &mut [u32], more: &[u32])
     ensures { row.new ≡ added row.old more.now }
 {
-    let mut i: usize = 0;
-    while i < more.len() {
-        if row.len() <= i {
-            return;
-        }
-        row[i] = std::num::wrapping_add_u32(row[i], more[i]);
-        i = i + 1;
+    for i in 0..row.len().min(more.len()) {
+        row[i] = row[i].wrapping_add(more[i]);
     }
 }
 
@@ -38,20 +33,12 @@ fn cross(stack: &mut [u32], n: usize, reads: &[u32], hist: &mut [u32])
     ensures { hist.new ≡ crossed stack.old n reads.now hist.old }
 {
     let mut held = n;
-    let mut i: usize = 0;
-    while i < reads.len() {
-        let place = reuse_engine::touch(stack, held, reads[i]);
-        match place {
-            Place::Cold => {
-                held = held + 1;
-            }
-            Place::Depth(d) => {
-                count(hist, d - 1);
-            }
-            Place::Full => {}
-            Place::BadCount => {}
+    for &x in reads {
+        match reuse_engine::touch(stack, held, x) {
+            Place::Cold => held += 1,
+            Place::Depth(d) => count(hist, d - 1),
+            Place::Full | Place::BadCount => {}
         }
-        i = i + 1;
     }
 }
 
@@ -60,6 +47,6 @@ fn count(row: &mut [u32], at: usize)
     ensures { row.new ≡ one_more at row.old }
 {
     if at < row.len() {
-        row[at] = std::num::wrapping_add_u32(row[at], 1);
+        row[at] = row[at].wrapping_add(1);
     }
 }

@@ -26,7 +26,6 @@ use Rattle.summary_calls.proofs.Calls.{trace-wrote}
 use Rattle.reuse.proofs.Traces.{extents-within}
 use borrow.Author.Tests.{le-leb}
 use Rattle.summary_trace.specs.Tracing.{Blank, Taken}
-use Rattle.summary_calls.proofs.Fields.{front-part}
 use Rattle.reuse_engine.proofs.Crossing.{Crossing, cross-start, cross-cold, cross-known, cross-end}
 
 -- the first i reads are taken, their distances counted and their extents listed
@@ -146,18 +145,18 @@ module _ (trace stack first hist : List ℕ) where
 
 -- the fronts of the rows make the words of the trace's summary
 pub taken-words : (trace stack first hist : List ℕ) (v : ℕ) → Taken trace stack first hist v → v ≤ max_extents
-    → words (length trace) (take (v - 0) first) (take (v - 0) stack) (take (v - 0) hist) ≡ summary_of trace
+    → words (length trace) (take v first) (take v stack) (take v hist) ≡ summary_of trace
 unfolding summary_of
 taken-words trace stack first hist v k few =
     let f = k.fronts few in
-    rw (front-part v first, front-part v stack, front-part v hist, f.listed, f.recent, f.counted)
+    rw (f.listed, f.recent, f.counted)
 
 -- writing them out is the call on the trace
 pub taken-call : (trace stack first hist out : List ℕ) (v : ℕ) → Taken trace stack first hist v → v ≤ max_extents → length trace ≤ max_reads
-    → words_call (length trace) (take (v - 0) first) (take (v - 0) stack) (take (v - 0) hist) out ≡ trace_call trace out
+    → words_call (length trace) (take v first) (take v stack) (take v hist) out ≡ trace_call trace out
 unfolding words_call
 taken-call trace stack first hist out v k few short =
     let f = k.fronts few in
     let n : length (firsts trace) ≤ max_extents = extents-within trace v k.extents few in
-    rw (taken-words trace stack first hist v k few, front-part v first, f.listed, le-leb (length (firsts trace)) max_extents n)
+    rw (taken-words trace stack first hist v k few, f.listed, le-leb (length (firsts trace)) max_extents n)
     (sym (trace-wrote trace out short n))

@@ -24,9 +24,9 @@ pub fn of_trace(trace: &[u32], out: &mut [u32]) -> Result<usize, Refusal>
     }
     summary_words::write(
         trace.len() as u32,
-        &first[0..held],
-        &stack[0..held],
-        &hist[0..held],
+        &first[..held],
+        &stack[..held],
+        &hist[..held],
         out,
     )
 }
@@ -38,27 +38,16 @@ fn take(trace: &[u32], stack: &mut [u32], first: &mut [u32], hist: &mut [u32]) -
     ensures { Taken trace.now stack.new first.new hist.new result }
 {
     let mut held: usize = 0;
-    let mut i: usize = 0;
-    while i < trace.len() {
-        let x = trace[i];
-        let place = reuse_engine::touch(stack, held, x);
-        match place {
+    for &x in trace {
+        match reuse_engine::touch(stack, held, x) {
             Place::Cold => {
                 first[held] = x;
-                held = held + 1;
+                held += 1;
             }
-            Place::Depth(d) => {
-                let at = d - 1;
-                hist[at] = hist[at] + 1;
-            }
-            Place::Full => {
-                return reuse::MAX_EXTENTS + 1;
-            }
-            Place::BadCount => {
-                return held;
-            }
+            Place::Depth(d) => hist[d - 1] += 1,
+            Place::Full => return reuse::MAX_EXTENTS + 1,
+            Place::BadCount => return held,
         }
-        i = i + 1;
     }
     held
 }

@@ -1,33 +1,21 @@
--- `allowance::search` meets its contract. The invariant is `Searching`.
-use Prim.Native.Nat.{◌-◌}
-use mathlib.Core.Logic.{⊎_elim}
+-- `allowance::search` meets its contract.
+use mathlib.Core.Path.{refl}
 use native.Mathlib.Omega.{arith}
-use lib.ListN.{length}
-use borrow.Author.Tests.{ltb-true, ltb-false}
-use Rattle.allowance.proofs.Searching.{Searching, search-start, search-takes, search-turn, search-enough, search-end}
-use borrow.Author.Rules.{rules}
+use Rattle.allowance.proofs.Searching.{search-start, search-takes, search-turn, search-enough, search-end}
 use Rattle.allowance.proofs.search.Goals as goal
 
-pub loop-size-init : goal.loop-size-init
-loop-size-init c = search-start _ _ _ c.requires
+pub loop-count-init : goal.loop-count-init
+loop-count-init c = (refl, search-start _ _ _ c.requires)
 
 pub overflow_sub-left : goal.overflow_sub-left
-overflow_sub-left c = search-takes _ _ _ _ _ _ c.loop-size.invariant
+overflow_sub-left c = rw (← c.loop-count.invariant.0) (search-takes _ _ _ _ _ _ c.loop-count.invariant.1)
 
-pub overflow_add-words_read : goal.overflow_add-words_read
-overflow_add-words_read c = omega (arith, c.loop-size.invariant.counted, c.requires.few)
+pub loop-count-preserved : goal.loop-count-preserved
+loop-count-preserved c =
+    (omega arith, rw (← c.loop-count.invariant.0) (search-turn _ _ _ _ _ _ c.loop-count.invariant.1 (omega arith) (omega arith)))
 
-pub loop-size-smaller : goal.loop-size-smaller
-loop-size-smaller c = omega arith
+pub returns-after-loop-count : goal.returns-after-loop-count
+returns-after-loop-count c = search-end _ _ _ _ _ _ c.loop-count.invariant.1 (omega arith)
 
-pub loop-size-preserved : goal.loop-size-preserved
-loop-size-preserved c = search-turn _ _ _ _ _ _ c.loop-size.invariant (omega arith) (omega arith)
-
-pub overflow_cast-result : goal.overflow_cast-result
-overflow_cast-result c = omega (arith, c.loop-size.invariant.short, c.requires.few)
-
-pub returns : goal.returns
-returns c =
-    let h = search-end _ _ _ _ _ _ c.loop-size.invariant in
-    let k = search-enough _ _ _ _ _ _ c.loop-size.invariant in
-    search rules
+pub returns-then-left-misses : goal.returns-then-left-misses
+returns-then-left-misses c = search-enough _ _ _ _ _ _ c.loop-count.invariant.1 (omega arith)

@@ -4,14 +4,12 @@ use Prim.Native.Nat.{ℕ}
 use native.Mathlib.Omega.{arith}
 use mathlib.Core.List.{List}
 use mathlib.Core.Bool.{true}
-use borrow.Author.Tests.{not-true, not-false}
 use Rattle.reuse.specs.Summary.{reads_of, extents_of, well_formed}
 use Rattle.summary_calls.proofs.Fields.{shaped, counts-part}
 use Rattle.allowance_calls.specs.Search.{searched, words_searched}
 use Rattle.allowance_calls.proofs.Calls.{call-bad, call_below, call-searched}
 use Rattle.allowance.specs.Searching.{found_by}
 use Rattle.allowance.proofs.Searching.{searchable}
-use borrow.Author.Rules.{rules}
 use Rattle.allowance.proofs.smallest.Goals as goal
 use Rattle.allowance.proofs.smallest.Goals.{Else-not-well_formed}
 

@@ -4,10 +4,10 @@ use mathlib.Core.Bool.{true}
 use Rattle.session_soundness.specs.Soundness.{intact_rows}
 use Rattle.session_refusals.proofs.Refusals.{refusal-unsound, refusal-reads, refusal-extents, refusal-known, refusal-few}
 use Rattle.session_refusals.proofs.refusal.Goals as goal
-use Rattle.session_refusals.proofs.refusal.Goals.{Else-not-intact}
+use Rattle.session_refusals.proofs.refusal.Goals.{Else-not-intact, else-full-via-then-full+else-not-contains, else-full-via-else-full}
 
 -- the fields are sound
-ok : (c : Else-not-intact) → let a = c.args in intact_rows a.reads a.first.now a.hist.now a.slots.now a.count a.rights.now a.next ≡ true
+ok : (c : Else-not-intact) → let a = c.args.fields in intact_rows a.reads a.first.now a.hist.now a.slots.now a.count a.rights.now a.next ≡ true
 ok c = sym c.intact.ensures ∙ c.if-not-intact.false
 
 pub returns-then-not-intact : goal.returns-then-not-intact
@@ -19,8 +19,10 @@ returns-then-at_limit c = sym (refusal-reads _ _ _ _ _ _ _ (ok (goal.at.returns-
 pub returns-then-not-contains : goal.returns-then-not-contains
 returns-then-not-contains c = sym (refusal-extents _ _ _ _ _ _ _ (ok (goal.at.returns-then-not-contains c).Else-not-intact) _ c.if-at_limit.false c.if-full.true (sym c.contains.ensures ∙ c.if-not-contains.true))
 
-pub returns-else-not-contains : goal.returns-else-not-contains
-returns-else-not-contains c = sym (refusal-known _ _ _ _ _ _ _ (ok (goal.at.returns-else-not-contains c).Else-not-intact) _ c.if-at_limit.false c.if-full.true (sym c.contains.ensures ∙ c.if-not-contains.false))
-
-pub returns-else-full : goal.returns-else-full
-returns-else-full c = sym (refusal-few _ _ _ _ _ _ _ (ok (goal.at.returns-else-full c).Else-not-intact) _ c.if-at_limit.false c.if-full.false)
+pub returns : goal.returns
+returns c =
+    let held = ok (goal.at.returns c).Else-not-intact in
+    elim c.else-full.branch [
+      | else-full-via-then-full+else-not-contains w ↦ sym (refusal-known _ _ _ _ _ _ _ held _ c.if-at_limit.false w.if-full.true (sym w.contains.ensures ∙ w.if-not-contains.false))
+      | else-full-via-else-full w ↦ sym (refusal-few _ _ _ _ _ _ _ held _ c.if-at_limit.false w.if-full.false)
+    ]

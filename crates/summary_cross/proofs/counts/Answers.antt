@@ -1,4 +1,3 @@
--- `summary_cross::counts` meets its contract.
 use Rattle.std.proofs.Common.{◌∙◌}
 use Rattle.summary_cross.proofs.counts.Goals as goal
 

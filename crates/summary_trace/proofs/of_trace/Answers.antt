@@ -1,4 +1,3 @@
--- `summary_trace::of_trace` meets its contract.
 use mathlib.Core.Path.{refl}
 use Prim.Native.Nat.{ℕ}
 use lib.ListN.{length-replicate}

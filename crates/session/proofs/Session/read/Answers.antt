@@ -4,7 +4,7 @@ use native.Mathlib.Omega.{arith}
 use Rattle.session.specs.declared.Session.{Session}
 use Rattle.session.specs.Sessions.{Wide}
 use Rattle.session.proofs.Corresponds.{Facts, sound-facts}
-use Rattle.session.proofs.Ways.{Ready, ready_made, ready-there, search_of, found, Accepted, gatherable, refused-way, accepts, moves, known-way, enters, cold-way}
+use Rattle.session.proofs.Ways.{Ready, ready_made, ready-there, search_of, found, Accepted, gatherable, lent-refusal, refused-way, accepts, moves, known-way, enters, cold-way}
 use borrow.Author.Rules.{rules}
 use Rattle.session.proofs.Session.read.Goals as goal
 use Rattle.session.proofs.Session.read.Goals.{After-find-f, In_default, Joined-filled, Start, then-filled, else-filled}
@@ -15,7 +15,7 @@ wide c = record { first-wide = search rules; hist-wide = search rules; slots-wid
 
 -- the read is accepted
 accepted : (c : In_default) → Wide c.args.self → Accepted c.args.self c.args.extent
-accepted c w = accepts _ w _ (sym c.refusal-refusal.ensures ∙ c.in_default.is)
+accepted c w = accepts _ w _ (sym (lent-refusal _ _ c.fields.ensures _) ∙ sym c.refusal-refusal.ensures ∙ c.in_default.is)
 
 -- what the test of the session says
 facts : (c : In_default) → Wide c.args.self → Facts c.args.self
@@ -35,7 +35,7 @@ searched : (c : After-find-f) → Ready c.args.self c.if-filled.self → c.find-
 searched c r = c.find-f.ensures ∙ found c.args.self c.if-filled.self r c.args.extent
 
 pub returns-in-Some : goal.returns-in-Some
-returns-in-Some c = c.refused.ensures ∙ refused-way _ (wide (goal.at.returns-in-Some c).Start) _ _ (sym c.in-Some.is ∙ c.refusal-refusal.ensures)
+returns-in-Some c = c.refused.ensures ∙ refused-way _ (wide (goal.at.returns-in-Some c).Start) _ _ (sym c.in-Some.is ∙ c.refusal-refusal.ensures ∙ lent-refusal _ _ c.fields.ensures _)
 
 pub gathered-self-requires : goal.gathered-self-requires
 gathered-self-requires c =

@@ -1,7 +1,7 @@
 -- `session::Session::sound` meets its contract. The test of its fields is the test of the session.
 use mathlib.Core.Path.{◌∙◌}
 use Rattle.session.specs.Sessions.{Wide}
-use Rattle.session.proofs.Corresponds.{tested}
+use Rattle.session.proofs.Corresponds.{lent-tested}
 use borrow.Author.Rules.{rules}
 use Rattle.session.proofs.Session.sound.Goals as goal
 use Rattle.session.proofs.Session.sound.Goals.{Start}
@@ -11,4 +11,4 @@ wide : (c : Start) → Wide c.args.self
 wide c = record { first-wide = search rules; hist-wide = search rules; slots-wide = search rules; rights-wide = search rules }
 
 pub returns : goal.returns
-returns c = c.intact.ensures ∙ tested _ (wide (goal.at.returns c).Start)
+returns c = c.intact.ensures ∙ lent-tested _ (wide (goal.at.returns c).Start) _ c.fields.ensures

@@ -1,4 +1,4 @@
--- `session_soundness::rows_hold` meets its contract. Each test that fails breaks a fact, and the last decides.
+-- `session_soundness::Fields::rows_hold` meets its contract. Each test that fails breaks a fact, and the last decides.
 use mathlib.Core.Path.{◌≡◌, sym, ap, ◌∙◌}
 use native.Mathlib.Omega.{arith}
 use lib.ListN.{length, take}
@@ -13,8 +13,8 @@ use Rattle.reuse_rows.proofs.Slices.{part-rest}
 use Rattle.session_soundness.proofs.Sound.{unsound}
 use Rattle.session_soundness.proofs.Verdict.{Passed, passed-sound, sound-marks, sound-few, sound-first-rest, sound-hist-rest, sound-total, sound-apart}
 use borrow.Author.Rules.{rules}
-use Rattle.session_soundness.proofs.rows_hold.Goals as goal
-use Rattle.session_soundness.proofs.rows_hold.Goals.{Else-not-all_distinct}
+use Rattle.session_soundness.proofs.Fields.rows_hold.Goals as goal
+use Rattle.session_soundness.proofs.Fields.rows_hold.Goals.{Else-not-all_distinct}
 
 -- the sum of H below v
 total : (t v : ℕ) (h : List ℕ) → v ≤ max_extents → length h ≡ max_extents → t ≡ sum (take max_extents (take v h)) → t ≡ sum (take v h)
@@ -22,20 +22,20 @@ total t v h few wide e = e ∙ ap sum (take_all max_extents _ (omega (arith, len
 
 -- all tests but the last are passed
 passed : (c : Else-not-all_distinct)
-    → let a = c.args in Passed a.reads a.first.now a.hist.now a.slots.now a.marks.now a.next a.count
+    → let s = c.args.self in Passed s.reads s.first.now s.hist.now s.slots.now c.args.marks.now s.next s.count
 passed c =
     record {
-      short = c.if-reads-gt-MAX_READS.false;
+      short = c.if-self-gt-MAX_READS.false;
       held = sym c.marks_hold.ensures ∙ c.if-not-marks_hold.false;
-      few = c.if-count.false;
-      first_rest = sym (c.all_zero.ensures ∙ ap blank (part-rest c.args.first.now _)) ∙ c.if-not-all_zero.false;
-      hist-rest = sym (c.all_zero-2.ensures ∙ ap blank (part-rest c.args.hist.now _)) ∙ c.if-not-all_zero-2.false;
-      total = ap (λ (n : ℕ). n + c.args.count) (sym (total _ _ _ c.if-count.false c.requires.0.hist-wide c.total.ensures.0)) ∙ c.if-total-v.false;
+      few = c.if-self.false;
+      first_rest = sym (c.all_zero.ensures ∙ ap blank (part-rest c.args.self.first.now _)) ∙ c.if-not-all_zero.false;
+      hist-rest = sym (c.all_zero-2.ensures ∙ ap blank (part-rest c.args.self.hist.now _)) ∙ c.if-not-all_zero-2.false;
+      total = ap (λ (n : ℕ). n + c.args.self.count) (sym (total _ _ _ c.if-self.false c.requires.0.hist-wide c.total.ensures.0)) ∙ c.if-total-v.false;
       first-apart = sym c.all_distinct.ensures ∙ c.if-not-all_distinct.false;
     }
 
-pub returns-then-reads-gt-MAX_READS : goal.returns-then-reads-gt-MAX_READS
-returns-then-reads-gt-MAX_READS c = sym (unsound _ _ _ _ _ _ c.requires.0 (λ f. omega (arith, f.short, c.if-reads-gt-MAX_READS.true)))
+pub returns-then-self-gt-MAX_READS : goal.returns-then-self-gt-MAX_READS
+returns-then-self-gt-MAX_READS c = sym (unsound _ _ _ _ _ _ c.requires.0 (λ f. omega (arith, f.short, c.if-self-gt-MAX_READS.true)))
 
 pub returns-then-not-marks_hold : goal.returns-then-not-marks_hold
 returns-then-not-marks_hold c =
@@ -43,35 +43,35 @@ returns-then-not-marks_hold c =
     let e = c.requires.1 in
     sym (unsound _ _ _ _ _ _ w (λ f. clash (sound-marks _ _ _ _ _ _ _ w e f) (sym c.marks_hold.ensures ∙ c.if-not-marks_hold.true)))
 
-pub returns-then-count : goal.returns-then-count
-returns-then-count c =
+pub returns-then-self : goal.returns-then-self
+returns-then-self c =
     let w = c.requires.0 in
     let e = c.requires.1 in
-    sym (unsound _ _ _ _ _ _ w (λ f. omega (arith, c.if-count.true, sound-few _ _ _ _ _ _ _ w e f)))
+    sym (unsound _ _ _ _ _ _ w (λ f. omega (arith, c.if-self.true, sound-few _ _ _ _ _ _ _ w e f)))
 
 pub returns-then-not-all_zero : goal.returns-then-not-all_zero
 returns-then-not-all_zero c =
     let w = c.requires.0 in
     let e = c.requires.1 in
-    sym (unsound _ _ _ _ _ _ w (λ f. clash (sound-first-rest _ _ _ _ _ _ _ w e f) (sym (c.all_zero.ensures ∙ ap blank (part-rest c.args.first.now _)) ∙ c.if-not-all_zero.true)))
+    sym (unsound _ _ _ _ _ _ w (λ f. clash (sound-first-rest _ _ _ _ _ _ _ w e f) (sym (c.all_zero.ensures ∙ ap blank (part-rest c.args.self.first.now _)) ∙ c.if-not-all_zero.true)))
 
 pub returns-then-not-all_zero-2 : goal.returns-then-not-all_zero-2
 returns-then-not-all_zero-2 c =
     let w = c.requires.0 in
     let e = c.requires.1 in
-    sym (unsound _ _ _ _ _ _ w (λ f. clash (sound-hist-rest _ _ _ _ _ _ _ w e f) (sym (c.all_zero-2.ensures ∙ ap blank (part-rest c.args.hist.now _)) ∙ c.if-not-all_zero-2.true)))
+    sym (unsound _ _ _ _ _ _ w (λ f. clash (sound-hist-rest _ _ _ _ _ _ _ w e f) (sym (c.all_zero-2.ensures ∙ ap blank (part-rest c.args.self.hist.now _)) ∙ c.if-not-all_zero-2.true)))
 
 pub slice_bounds-total-end : goal.slice_bounds-total-end
-slice_bounds-total-end c = sym (length-take-le _ _ (omega (arith, c.if-count.false, c.requires.0.hist-wide)))
+slice_bounds-total-end c = sym (length-take-le _ _ (omega (arith, c.if-self.false, c.requires.0.hist-wide)))
 
 pub returns-then-total-v : goal.returns-then-total-v
 returns-then-total-v c =
     let w = c.requires.0 in
     let e = c.requires.1 in
-    sym (unsound _ _ _ _ _ _ w (λ f. c.if-total-v.true (ap (λ (n : ℕ). n + c.args.count) (total _ _ _ c.if-count.false c.requires.0.hist-wide c.total.ensures.0) ∙ sound-total _ _ _ _ _ _ _ w e f)))
+    sym (unsound _ _ _ _ _ _ w (λ f. c.if-total-v.true (ap (λ (n : ℕ). n + c.args.self.count) (total _ _ _ c.if-self.false c.requires.0.hist-wide c.total.ensures.0) ∙ sound-total _ _ _ _ _ _ _ w e f)))
 
 pub slice_bounds-all_distinct-end : goal.slice_bounds-all_distinct-end
-slice_bounds-all_distinct-end c = sym (length-take-le _ _ (omega (arith, c.if-count.false, c.requires.0.first-wide)))
+slice_bounds-all_distinct-end c = sym (length-take-le _ _ (omega (arith, c.if-self.false, c.requires.0.first-wide)))
 
 pub returns-then-not-all_distinct : goal.returns-then-not-all_distinct
 returns-then-not-all_distinct c =
@@ -80,15 +80,15 @@ returns-then-not-all_distinct c =
     sym (unsound _ _ _ _ _ _ w (λ f. clash (sound-apart _ _ _ _ _ _ _ w e f) (sym c.all_distinct.ensures ∙ c.if-not-all_distinct.true)))
 
 pub slice_bounds-all_in-end : goal.slice_bounds-all_in-end
-slice_bounds-all_in-end c = sym (length-take-le _ _ (omega (arith, c.if-count.false, c.requires.0.first-wide)))
+slice_bounds-all_in-end c = sym (length-take-le _ _ (omega (arith, c.if-self.false, c.requires.0.first-wide)))
 
 pub slice_bounds-all_in-end-2 : goal.slice_bounds-all_in-end-2
 slice_bounds-all_in-end-2 c =
     let n : length c.gather-marked.result ≡ slot_count = search rules in
-    sym (length-take-le _ _ (omega (arith, c.if-count.false)))
+    sym (length-take-le _ _ (omega (arith, c.if-self.false)))
 
 pub returns : goal.returns
 returns c =
     c.all_in.ensures
-    ∙ ap (λ (l : List ℕ). all_in (take c.args.count c.args.first.now) (take c.args.count l)) c.gather-marked.ensures
+    ∙ ap (λ (l : List ℕ). all_in (take c.args.self.count c.args.self.first.now) (take c.args.self.count l)) c.gather-marked.ensures
     ∙ passed-sound _ _ _ _ _ _ _ c.requires.0 c.requires.1 (passed (goal.at.returns c).Else-not-all_distinct)
