@@ -6,7 +6,7 @@ mod passes;
 ghost use Rattle.std.specs.Prelude.{◌≡◌};
 ghost use Rattle.after.specs.Calls.{after_call};
 
-use summary::Written;
+use reuse::Refusal;
 
 // One word a read at the front of `out`: its distance in the whole log, or for a cold read 65,536 plus its number, which counts the prefix's extents too.
 pub fn distances(prefix: &[u32], reads: &[u32], out: &mut [u32]) -> Result<usize, Refusal>

@@ -1,5 +1,4 @@
 -- The loop of the search: what holds at a size, from its start to its end.
-use Rattle.std.specs.Prelude.{Ok}
 use mathlib.Core.Path.{◌≡◌, refl, ap, ◌∙◌}
 use Prim.Native.Nat.{ℕ, suc, ◌+◌, ◌-◌, ◌≤◌, ◌<◌}
 use native.Mathlib.Numerals.{add-one}
@@ -51,18 +50,18 @@ module _ (counts : List ℕ) (reads m : ℕ) where
         })
 
     -- the size found, and the words read, where this one suffices
-    found : length (searched m left (drop size counts)) ≡ 0 → Ok (record { size = size; words_read = words-read }) ≡ found_by (searched m reads counts)
+    found : length (searched m left (drop size counts)) ≡ 0 → record { size = size; words_read = words-read } ≡ found_by (searched m reads counts)
     found e =
         let n : size ≡ length (searched m reads counts) = omega (arith, e, s.so_far) in
         let r : words-read ≡ length (searched m reads counts) = s.counted ∙ n in
         cc
 
     -- as it does where no more than m are left
-    pub search-enough : left ≤ m → Ok (record { size = size; words_read = words-read }) ≡ found_by (searched m reads counts)
+    pub search-enough : left ≤ m → record { size = size; words_read = words-read } ≡ found_by (searched m reads counts)
     search-enough e = found (ap length (searched-enough m left (drop size counts) (le-leb left m e)))
 
     -- or where no word is
-    pub search-end : length counts ≤ size → Ok (record { size = size; words_read = words-read }) ≡ found_by (searched m reads counts)
+    pub search-end : length counts ≤ size → record { size = size; words_read = words-read } ≡ found_by (searched m reads counts)
     unfolding searched
     search-end l = found (ap (λ (hs : List ℕ). length (searched m left hs)) (drop_of_length-le counts l))
 

@@ -6,7 +6,8 @@ ghost use Rattle.allowance_calls.specs.Search.{searched};
 ghost use Rattle.allowance_calls.specs.Calls.{smallest_call};
 ghost use Rattle.allowance.specs.Searching.{Searchable, found_by};
 
-pub use allowance_calls::SizeAnswer;
+pub use allowance_calls::SmallestCache;
+use reuse::Refusal;
 use summary_formed::well_formed;
 
 // The smallest size of a cache that misses no more often than this, and how many words of H the search for it read.
@@ -24,11 +25,11 @@ pub fn smallest(words: &[u32], misses: u32) -> Result<SmallestCache, Refusal>
     let v = cold as usize;
     let recent = 2 + v;
     let counts = recent + v;
-    search(&words[counts..], words[0], misses)
+    Ok(search(&words[counts..], words[0], misses))
 }
 
 // H from distance 1 upwards: each word read takes its reads from the misses, until no more than these are left.
-fn search(counts: &[u32], reads: u32, misses: u32) -> Result<SmallestCache, Refusal>
+fn search(counts: &[u32], reads: u32, misses: u32) -> SmallestCache
     requires { Searchable counts.now reads }
     ensures { result ≡ found_by (searched misses reads counts.now) }
 {
@@ -43,5 +44,5 @@ fn search(counts: &[u32], reads: u32, misses: u32) -> Result<SmallestCache, Refu
         words_read += 1;
         size += 1;
     }
-    SizeAnswer::Size { size, words_read }
+    SmallestCache { size, words_read }
 }

@@ -6,7 +6,7 @@ mod passes;
 ghost use Rattle.std.specs.Prelude.{◌≡◌};
 ghost use Rattle.insertion_calls.specs.Calls.{insertion_call};
 
-pub use insertion_calls::InsertionAnswer;
+use reuse::Refusal;
 
 // The misses of a cache of this size with a read of the extent put into the trace at the place, less those without it.
 // One stack goes through the trace without the read; marks tell what the read changes, until its extent is read again.

@@ -7,8 +7,7 @@ mod search;
 ghost use Rattle.std.specs.Prelude.{◌≡◌};
 ghost use Rattle.split_calls.specs.Calls.{split_call};
 
-use reuse::{MAX_CUSTOMERS, MAX_STORE};
-pub use split_calls::SplitAnswer;
+use reuse::{MAX_CUSTOMERS, MAX_STORE, Refusal};
 
 // The misses in all of the customers' summaries at the shares found, which stand at the front of `shares`.
 pub fn split(store: u32, leasts: &[u32], summaries: &[u32], shares: &mut [u32]) -> Result<u32, Refusal>

@@ -1,4 +1,5 @@
 -- `allowance::smallest` meets its contract.
+use Rattle.std.specs.Prelude.{Ok}
 use mathlib.Core.Path.{◌≡◌, sym, ap, ◌∙◌}
 use Prim.Native.Nat.{ℕ}
 use native.Mathlib.Omega.{arith}
@@ -46,6 +47,5 @@ unfolding reads_of extents_of words_searched
 returns c =
     let a = c.args in
     let h = pass (goal.at.returns c).Else-not-well_formed in
-    c.search.ensures
-    ∙ ap (λ (hs : List ℕ). found_by (searched a.misses (reads_of a.words.now) hs)) (counts-part _ (shaped _ h))
+    ap Ok (c.search.ensures ∙ ap (λ (hs : List ℕ). found_by (searched a.misses (reads_of a.words.now) hs)) (counts-part _ (shaped _ h)))
     ∙ sym (call-searched _ _ h c.if-below.false)
