@@ -1,12 +1,10 @@
 // Carrying a plan out: a seg is summarized, a join's parts are joined from the inside out, left to right.
 ghost use Rattle.std.specs.Prelude.{◌≡◌};
-ghost use Rattle.plan_calls.specs.Calls.{count_of};
 ghost use Rattle.plan_calls.specs.Standing.{Ready, Roomy};
 ghost use Rattle.plan.specs.Evaluation.{Evaluates};
 
 use plan_joins::LEVEL;
 use plan_lines::Line;
-use summary::Written;
 
 // How far evaluation has come: the position past the form, the brackets after its own, the reads taken, and the words of the summary.
 #[derive(Drop)]
@@ -15,16 +13,6 @@ pub struct Done {
     pub closes: usize,
     pub taken: usize,
     pub words: usize,
-}
-
-// How many words a call has written.
-fn count_of(answer: Result<usize, Refusal>) -> usize
-    ensures { result ≡ count_of answer }
-{
-    match answer {
-        Ok(n) => n,
-        Err(_) => 0,
-    }
 }
 
 // The plan at `at` under `under` joins, on the log's reads from `from` on, with `left` levels of work words.
@@ -60,7 +48,7 @@ pub fn evaluate(
             done.next = next;
             done.closes = closes;
             done.taken = end;
-            done.words = count_of(summary::of_trace(&log[from..end], out));
+            done.words = summary::of_trace(&log[from..end], out).unwrap_or(0);
             done
         }
         Line::Join { next } => {

@@ -7,7 +7,7 @@ ghost use Rattle.std.specs.Prelude.{◌≡◌};
 ghost use Rattle.plan_calls.specs.Calls.{run_call, Accepted};
 
 pub use plan_reader::{MAX_BYTES, PlanRead, read};
-use summary::Written;
+use reuse::Refusal;
 
 // A plan text carried out on a log: the words of the log's summary at the front of `out`, its parts joined as the plan says.
 pub fn run(text: &[u8], log: &[u32], work: &mut [u32], out: &mut [u32]) -> Result<usize, Refusal>
@@ -15,16 +15,11 @@ pub fn run(text: &[u8], log: &[u32], work: &mut [u32], out: &mut [u32]) -> Resul
     ensures work { work.new ≡ (run_call text.now log.now work.old out.old).work }
     ensures out { out.new ≡ (run_call text.now log.now work.old out.old).out }
 {
-    let plan = read(text);
-    match plan {
-        PlanRead::Refused(n) => Err(n),
-        PlanRead::Plan { reads, depth } => {
-            if reads != log.len() as u64 {
-                return Err(Refusal::WrongTotal);
-            }
-            carry_out(text, log, work, out, depth)
-        }
+    let plan = read(text)?;
+    if plan.reads != log.len() as u64 {
+        return Err(Refusal::WrongTotal);
     }
+    carry_out(text, log, work, out, plan.depth)
 }
 
 // A plan of this depth whose segs add up to the log.

@@ -1,6 +1,9 @@
 -- What carrying a plan out answers, and what it leaves in the two buffers lent to it.
 use Rattle.std.specs.Prelude.{◌≡◌, ℕ, ◌+◌, ◌*◌, List, ◌++◌, cond, ◌&&◌, eqb, leb, length, drop, replicate, Result, Ok, Err}
+use Rattle.std.specs.Result.{result_unwrap_or}
 use Rattle.reuse.specs.declared.refusals.Refusal.{Refusal}
+use Rattle.reuse.specs.declared.refusals.Refusal.TheVariants.{WrongTotal, NoRoom, TooManyReads, TooManyExtents}
+use Rattle.reuse.specs.Refusals.{refusal_with}
 use Rattle.reuse.specs.Limits.{max_reads, max_extents}
 use Rattle.reuse.specs.Lists.{firsts}
 use Rattle.reuse.specs.Summary.{summary_of}
@@ -30,8 +33,7 @@ fronted words buffer = words ++ drop (length words) buffer
 
 -- how many words a call has written
 abbrev pub count_of : Result ℕ Refusal → ℕ
-count_of (Ok n) = n
-count_of (Err n) = 0
+count_of a = result_unwrap_or a 0
 
 -- the answer, and both lent buffers after it
 pub record Ran : Type 0 where
@@ -48,21 +50,21 @@ unfoldable pub carried_out : Plan → List ℕ → List ℕ → List ℕ → Ran
 carried_out t log work out =
     cond (leb (work_words t) (length work) && leb (length (summary_of log)) (length out))
     (record { answer = Ok (length (summary_of log)); work = cleared (work_words t) work; out = fronted (summary_of log) out })
-    (refused 6 work out)
+    (refused NoRoom work out)
 
 -- a plan on a log: 3, 8, 9, 6
 unfoldable pub plan_call : Plan → List ℕ → List ℕ → List ℕ → Ran
 plan_call t log work out =
     cond (eqb (reads t) (length log))
     (cond (leb (length log) max_reads)
-    (cond (leb (length (firsts log)) max_extents) (carried_out t log work out) (refused 9 work out))
-    (refused 8 work out))
-    (refused 3 work out)
+    (cond (leb (length (firsts log)) max_extents) (carried_out t log work out) (refused TooManyExtents work out))
+    (refused TooManyReads work out))
+    (refused WrongTotal work out)
 
 -- by the text's answer: its refusal comes first
 abbrev pub run_by : Read Plan → List ℕ → List ℕ → List ℕ → Ran
 run_by (got t) log work out = plan_call t log work out
-run_by (refused_at line n) log work out = refused n work out
+run_by (refused_at line n) log work out = refused (refusal_with n) work out
 
 -- a plan text on a log
 unfoldable pub run_call : List ℕ → List ℕ → List ℕ → List ℕ → Ran

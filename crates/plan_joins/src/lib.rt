@@ -4,8 +4,6 @@
 ghost use Rattle.std.specs.Prelude.{◌≡◌};
 ghost use Rattle.plan_joins.specs.Calls.{join_held};
 
-use summary::Written;
-
 // The words of the largest summary.
 const SUMMARY_WORDS: usize = 2 + 3 * reuse::MAX_EXTENTS;
 
@@ -38,9 +36,5 @@ pub fn join_held(work: &mut [u32], held: usize, out: &mut [u32], words: usize) -
     let both = &work[..];
     let first = &both[..held];
     let second = &both[SUMMARY_WORDS..end];
-    let answer = summary::join(first, second, out);
-    match answer {
-        Ok(n) => n,
-        Err(_) => 0,
-    }
+    summary::join(first, second, out).unwrap_or(0)
 }

@@ -5,6 +5,7 @@ ghost use Rattle.texts.specs.PlanOwed.{closable_after};
 ghost use Rattle.plan_reader.specs.Answers.{FormIs, PartsIs, FormWithin};
 
 use plan_lines::Line;
+use reuse::Refusal;
 
 // The longest seg.
 const MAX_SEG: u64 = 1048576;
@@ -15,16 +16,13 @@ const MAX_JOINS: usize = 8;
 // The most parts of one join.
 const MAX_PARTS: usize = 16;
 
-// A form: the reads of its segs, its depth, the brackets after its own and the position past it; or the refusal's number.
+// A form: the reads of its segs, its depth, the brackets after its own and the position past it.
 #[derive(Drop)]
-pub enum Found {
-    Read {
-        reads: u64,
-        depth: usize,
-        closes: usize,
-        next: usize,
-    },
-    Refused(u32),
+pub struct FormRead {
+    pub reads: u64,
+    pub depth: usize,
+    pub closes: usize,
+    pub next: usize,
 }
 
 // How many joins may close after the next part of a join with `count` parts, where `most` may after the join.
@@ -37,13 +35,13 @@ fn closable(most: usize, count: usize) -> usize
 
 // The form at `at` under `under` joins, of which `most` may close after it, the innermost with `count` parts so far.
 #[cycle(form_parts)]
-pub fn form(s: &[u8], at: usize, under: usize, most: usize, count: usize) -> Found
+pub fn form(s: &[u8], at: usize, under: usize, most: usize, count: usize) -> Result<FormRead, Refusal>
     requires { (at ≤ length s.now) × (length s.now ≤ max_bytes) × (under ≤ max_joins) × (most ≤ under) }
     ensures within { FormWithin at (length s.now) most under max_joins 0 result }
     ensures is { FormIs s.now at under most count result }
 {
     let Some(l) = plan_lines::line_at(s, at, under) else {
-        return Found::Refused(1);
+        return Err(Refusal::FaultyLine);
     };
     match l {
         Line::Seg {
@@ -52,27 +50,27 @@ pub fn form(s: &[u8], at: usize, under: usize, most: usize, count: usize) -> Fou
             next,
         } => {
             if most < closes {
-                return Found::Refused(1);
+                return Err(Refusal::FaultyLine);
             }
             if MAX_SEG < reads {
-                return Found::Refused(2);
+                return Err(Refusal::OutOfRange);
             }
             if MAX_PARTS <= count {
-                return Found::Refused(4);
+                return Err(Refusal::PlanTooLarge);
             }
-            Found::Read {
+            Ok(FormRead {
                 reads,
                 depth: 0,
                 closes,
                 next,
-            }
+            })
         }
         Line::Join { next } => {
             if MAX_JOINS <= under {
-                return Found::Refused(4);
+                return Err(Refusal::PlanTooLarge);
             }
             if MAX_PARTS <= count {
-                return Found::Refused(4);
+                return Err(Refusal::PlanTooLarge);
             }
             parts(s, next, under + 1, most, 0, 0, 0)
         }
@@ -89,31 +87,21 @@ fn parts(
     count: usize,
     reads: u64,
     low: usize,
-) -> Found
+) -> Result<FormRead, Refusal>
     requires { (at ≤ length s.now) × (length s.now ≤ max_bytes) × (under ≤ max_joins) × (most < under) × (reads ≤ max_seg * at) × (count ≤ at) × (low + under ≤ max_joins) }
     ensures within { FormWithin at (length s.now) most under (suc max_joins) reads result }
     ensures is { PartsIs s.now at under most count reads low result }
 {
-    let f = form(s, at, under, closable(most, count), count);
-    match f {
-        Found::Refused(n) => Found::Refused(n),
-        Found::Read {
-            reads: more,
-            depth,
-            closes,
-            next,
-        } => {
-            let total = reads + more;
-            let deep = low.max(depth);
-            if 0 < closes {
-                return Found::Read {
-                    reads: total,
-                    depth: deep + 1,
-                    closes: closes - 1,
-                    next,
-                };
-            }
-            parts(s, next, under, most, count + 1, total, deep)
-        }
+    let part = form(s, at, under, closable(most, count), count)?;
+    let total = reads + part.reads;
+    let deep = low.max(part.depth);
+    if 0 < part.closes {
+        return Ok(FormRead {
+            reads: total,
+            depth: deep + 1,
+            closes: part.closes - 1,
+            next: part.next,
+        });
     }
+    parts(s, part.next, under, most, count + 1, total, deep)
 }

@@ -1,23 +1,21 @@
 -- `plan_joins::join_held` meets its contract.
-use Rattle.std.specs.Prelude.{Result}
-use Rattle.reuse.specs.declared.refusals.Refusal.{Refusal}
 use mathlib.Core.Path.{◌≡◌, sym, ◌∙◌}
 use native.Mathlib.Omega.{arith}
 use lib.Seq.{length-take-le}
 use Rattle.plan_calls.specs.Calls.{count_of}
 use Rattle.plan_joins.proofs.Joins.{Holdable, Gives, level-short, held-long, words_long, out-short, gives_none, gives_both}
 use Rattle.plan_joins.proofs.join_held.Goals as goal
-use Rattle.plan_joins.proofs.join_held.Goals.{After-join-answer, Else-out-words}
+use Rattle.plan_joins.proofs.join_held.Goals.{After-join, Else-out-words}
 
 -- both summaries fit the level's words
 holdable : (c : Else-out-words) → Holdable c.args.work.now c.args.held c.args.out.now c.args.words
 holdable c = record { level = omega arith; first = omega arith; second = omega arith; fits = omega arith }
 
--- what is left when they are joined, by the answer
-joined : (c : After-join-answer) → Holdable c.args.work.now c.args.held c.args.out.now c.args.words → (answer : Result ℕ Refusal) → c.join-answer.result ≡ answer →
-    Gives c.args.work.now c.args.held c.args.out.now c.args.words (count_of answer) c.put.new.out c.join-answer.new.out
-joined c fits answer e =
-    gives_both c.args.work.now c.args.held c.args.out.now c.args.words fits (λ z. omega (arith, z)) _ c.put.ensures answer _ (sym e ∙ c.join-answer.ensures.0) c.join-answer.ensures.1
+-- what is left when they are joined
+joined : (c : After-join) → Holdable c.args.work.now c.args.held c.args.out.now c.args.words →
+    Gives c.args.work.now c.args.held c.args.out.now c.args.words (count_of c.join.result) c.put.new.out c.join.new.out
+joined c fits =
+    gives_both c.args.work.now c.args.held c.args.out.now c.args.words fits (λ z. omega (arith, z)) _ c.put.ensures c.join.result _ c.join.ensures.0 c.join.ensures.1
 
 pub returns-then-work-lt-LEVEL : goal.returns-then-work-lt-LEVEL
 returns-then-work-lt-LEVEL c = let g = level-short c.args.work.now c.args.held c.args.out.now c.args.words (omega arith) in record { is = g.0; work = g.1.0; out = g.1.1 }
@@ -42,10 +40,7 @@ slice_bounds-first-end c =
     let h = holdable (goal.at.slice_bounds-first-end c).Else-out-words in
     sym (length-take-le _ _ (omega (arith, c.put.auto.out, h.first, h.level)))
 
-pub returns-in-Words : goal.returns-in-Words
-returns-in-Words c =
-    let g = joined (goal.at.returns-in-Words c).After-join-answer (holdable (goal.at.returns-in-Words c).Else-out-words) _ c.in-Words.is in record { is = g.0; work = g.1.0; out = g.1.1 }
-
-pub returns-in-Refused : goal.returns-in-Refused
-returns-in-Refused c =
-    let g = joined (goal.at.returns-in-Refused c).After-join-answer (holdable (goal.at.returns-in-Refused c).Else-out-words) _ c.in-Refused.is in record { is = g.0; work = g.1.0; out = g.1.1 }
+pub returns : goal.returns
+returns c =
+    let b = goal.at.returns c in
+    let g = joined b.After-join (holdable b.Else-out-words) in record { is = c.unwrap_or.ensures ∙ g.0; work = g.1.0; out = g.1.1 }

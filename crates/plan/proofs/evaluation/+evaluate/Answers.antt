@@ -191,7 +191,7 @@ returns-in-Seg t c =
     let m : trace_call (mid_of a.from (a.from + g.reads - a.from) a.log.now) a.out.now ≡ trace_call (span a.from g.reads a.log.now) a.out.now =
     ap (λ (i : ℕ). trace_call (mid_of a.from i a.log.now) a.out.now) n in
     λ r. seg-done a.s.now a.at g.next a.log.now a.from a.left a.work.now a.out.now r.plan r.closes r.rest c.requires.1.within c.requires.1.room
-    (segged t l).1 (segged t l).2 g.reads g.closes (seg-is t l (segged t l).0 r) c.count_of.result o.new.out (c.count_of.ensures ∙ ap count_of o.ensures.0 ∙ ap (λ (v : Wrote). count_of v.answer) m) (o.ensures.1 ∙ ap (λ (v : Wrote). v.buffer) m) _ refl
+    (segged t l).1 (segged t l).2 g.reads g.closes (seg-is t l (segged t l).0 r) c.unwrap_or.result o.new.out (c.unwrap_or.ensures ∙ ap count_of o.ensures.0 ∙ ap (λ (v : Wrote). count_of v.answer) m) (o.ensures.1 ∙ ap (λ (v : Wrote). v.buffer) m) _ refl
 
 pub returns-after-loop-done : goal.returns-after-loop-done
 returns-after-loop-done t c =

@@ -1,5 +1,6 @@
 -- `plan_reader::forms::form` and `plan_reader::forms::parts` meet their contracts.
 use mathlib.Core.Path.{subst}
+use Rattle.reuse.proofs.Told.{handed_on}
 use Prim.Native.Nat.{suc, ◌+◌}
 use native.Mathlib.Omega.{arith}
 use borrow.Author.Rules.{rules}
@@ -79,28 +80,28 @@ form-returns-else-count-ge-MAX_PARTS-2 t c =
       is = ways.join a.s.now a.at a.under a.most a.count g v.0 c.if-under-ge-MAX_JOINS.false c.if-count-ge-MAX_PARTS-2.false c.parts.result e.is;
     }
 
-pub parts-returns-then-closes-gt0-clause-is : goal.parts-returns-then-closes-gt0-clause-is
-parts-returns-then-closes-gt0-clause-is t c =
+pub parts-returns-then-part-gt0-clause-is : goal.parts-returns-then-part-gt0-clause-is
+parts-returns-then-part-gt0-clause-is t c =
     let a = c.args in
-    let g = c.in-Read in
+    let g = c.in_ok-part.part in
     let m = c.closable in
-    let h = c.in-Read.ensures.within in
-    ways.last a.s.now a.at a.under a.most a.count a.reads a.low m.result m.ensures.0 g.more g.depth g.closes g.next (subst (FormIs a.s.now a.at a.under m.result a.count) c.in-Read.is c.form-f.ensures.is) c.max-deep.result (search rules) c.if-closes-gt0.true h.2
+    let h = c.in_ok-part.ensures.within in
+    ways.last a.s.now a.at a.under a.most a.count a.reads a.low m.result m.ensures.0 g.reads g.depth g.closes g.next (subst (FormIs a.s.now a.at a.under m.result a.count) c.in_ok-part.was c.form.ensures.is) c.max-deep.result (search rules) c.if-part-gt0.true h.2
 
-pub parts-returns-in-Refused-clause-is : goal.parts-returns-in-Refused-clause-is
-parts-returns-in-Refused-clause-is t c =
+pub parts-returns-in_err-part-clause-is : goal.parts-returns-in_err-part-clause-is
+parts-returns-in_err-part-clause-is t c =
     let a = c.args in
     let m = c.closable in
-    let g = c.in-Refused in
-    ways.stop a.s.now a.at a.under a.most a.count a.reads a.low m.result m.ensures.0 g.n (subst (FormIs a.s.now a.at a.under m.result a.count) g.is c.form-f.ensures.is)
+    rw (handed_on _ _ c.from_residual.ensures.1)
+    (ways.stop a.s.now a.at a.under a.most a.count a.reads a.low m.result m.ensures.0 _ (subst (FormIs a.s.now a.at a.under m.result a.count) c.in_err-part.was c.form.ensures.is))
 
-pub parts-returns-else-closes-gt0 : goal.parts-returns-else-closes-gt0
-parts-returns-else-closes-gt0 t c =
+pub parts-returns : goal.parts-returns
+parts-returns t c =
     let a = c.args in
-    let g = c.in-Read in
+    let g = c.in_ok-part.part in
     let m = c.closable in
-    let h = c.in-Read.ensures.within in
+    let h = c.in_ok-part.ensures.within in
     let e = c.parts.ensures in record {
-      within = ways.form-from a.at g.next (length a.s.now) a.most a.under a.under (suc max_joins) (suc max_joins) a.reads (a.reads + g.more) c.parts.result (omega arith) (omega arith) (omega arith) e.within;
-      is = ways.more a.s.now a.at a.under a.most a.count a.reads a.low m.result m.ensures.0 g.more g.depth g.closes g.next (subst (FormIs a.s.now a.at a.under m.result a.count) c.in-Read.is c.form-f.ensures.is) c.max-deep.result (search rules) (omega (arith, c.if-closes-gt0.false)) c.parts.result e.is;
+      within = ways.form-from a.at g.next (length a.s.now) a.most a.under a.under (suc max_joins) (suc max_joins) a.reads (a.reads + g.reads) c.parts.result (omega arith) (omega arith) (omega arith) e.within;
+      is = ways.more a.s.now a.at a.under a.most a.count a.reads a.low m.result m.ensures.0 g.reads g.depth g.closes g.next (subst (FormIs a.s.now a.at a.under m.result a.count) c.in_ok-part.was c.form.ensures.is) c.max-deep.result (search rules) (omega (arith, c.if-part-gt0.false)) c.parts.result e.is;
     }
