@@ -51,7 +51,7 @@ module _ (bytes : List ℕ) (start : State) (phase : Phase) (line : List ℕ) (h
       fed-on = advance-turned bytes pos line held phase reads extents stack counts (turnable h) (reaches r stack' counts') e
 
       -- and leaves what was left
-      pub fed-turn : PieceTaken bytes start r.phase r.line r.held r.reads r.extents stack' counts' r.at
+      pub fed-turn : PieceTaken bytes start r.progress.phase r.line r.held r.progress.reads r.progress.extents stack' counts' r.at
       fed-turn = record {
         inside = fed-on.inside;
         fits = fed-on.fits;

@@ -11,12 +11,14 @@ ghost use Rattle.listing.specs.Listers.{sound_lister, state_of, lister_with, lis
 
 pub use listing_pages::{PAGE_BYTES, Page};
 pub use listing_tally::Phase;
+use listing_tally::{LONGEST, Progress};
 pub use listing_texts::Verdict;
+use listing_turns::Turn;
 
 // A log text taken so far: what is held of a line that has not ended, how far the text is, and the tally of its reads.
 #[derive(Clone, Copy)]
 pub struct Lister {
-    pub line: [u8; listing_tally::LONGEST],
+    pub line: [u8; LONGEST],
     pub held: usize,
     pub phase: Phase,
     pub reads: u32,
@@ -25,20 +27,23 @@ pub struct Lister {
     pub counts: [u32; reuse::MAX_EXTENTS],
 }
 
-// The lister that holds the first bytes of a line, this phase and the tally in the first words of two rows, and 0 after them.
+// The lister that holds the first bytes of a line, this progress and the tally in the first words of two rows, and 0 after them.
 fn laid(
-    line: [u8; listing_tally::LONGEST],
+    line: [u8; LONGEST],
     held: usize,
-    phase: Phase,
-    reads: u32,
-    extents: usize,
+    progress: Progress,
     stack: [u32; reuse::MAX_EXTENTS],
     counts: [u32; reuse::MAX_EXTENTS],
 ) -> Lister
-    requires { (held ≤ longest_line) × (extents ≤ max_extents) }
-    ensures { result ≡ lister_with (take held line) phase (tally_in reads extents stack counts) }
+    requires { (held ≤ longest_line) × (progress.extents ≤ max_extents) }
+    ensures { result ≡ lister_with (take held line) progress.phase (tally_in progress.reads progress.extents stack counts) }
 {
-    let mut row = [0u8; listing_tally::LONGEST];
+    let Progress {
+        phase,
+        reads,
+        extents,
+    } = progress;
+    let mut row = [0u8; LONGEST];
     reuse_copies::put(&mut row, 0, &line[..held]);
     let recent = reuse_copies::padded(&stack[..extents]);
     let counted = reuse_copies::padded(&counts[..extents]);
@@ -53,24 +58,25 @@ fn laid(
     }
 }
 
-// The lister of a text taken so far, by its parts; a refused one keeps nothing but its number.
-fn stands(
-    line: [u8; listing_tally::LONGEST],
-    held: usize,
-    phase: Phase,
-    reads: u32,
-    extents: usize,
-    stack: [u32; reuse::MAX_EXTENTS],
-    counts: [u32; reuse::MAX_EXTENTS],
-) -> Lister
-    requires { (held ≤ longest_line) × (extents ≤ max_extents) }
-    ensures { result ≡ lister_of (state_by (taken_by phase (tally_in reads extents stack counts)) (take held line)) }
+// The lister of a text taken so far, by its last turn and its tally; a refused one keeps nothing but its number.
+fn stands(turn: Turn, stack: [u32; reuse::MAX_EXTENTS], counts: [u32; reuse::MAX_EXTENTS]) -> Lister
+    requires { (turn.held ≤ longest_line) × (turn.progress.extents ≤ max_extents) }
+    ensures { result ≡ lister_of (state_by (taken_by turn.progress.phase (tally_in turn.progress.reads turn.progress.extents stack counts)) (take turn.held turn.line)) }
 {
+    let line = turn.line;
+    let held = turn.held;
+    let progress = turn.progress;
+    let phase = progress.phase;
+    let none = Progress {
+        phase,
+        reads: 0,
+        extents: 0,
+    };
     match phase {
-        Phase::Empty => laid(line, held, phase, 0, 0, stack, counts),
-        Phase::Inside => laid(line, held, phase, reads, extents, stack, counts),
-        Phase::Whole => laid(line, held, phase, reads, extents, stack, counts),
-        Phase::Stopped(_) => laid(line, 0, phase, 0, 0, stack, counts),
+        Phase::Empty => laid(line, held, none, stack, counts),
+        Phase::Inside => laid(line, held, progress, stack, counts),
+        Phase::Whole => laid(line, held, progress, stack, counts),
+        Phase::Stopped(_) => laid(line, 0, none, stack, counts),
     }
 }
 
@@ -80,7 +86,7 @@ impl Lister {
         ensures { result ≡ empty_lister }
     {
         Lister {
-            line: [0; listing_tally::LONGEST],
+            line: [0; LONGEST],
             held: 0,
             phase: Phase::Empty,
             reads: 0,
@@ -126,34 +132,23 @@ impl Lister {
         if !self.takes_more() {
             return self;
         }
-        let mut phase = self.phase;
-        let mut line = self.line;
-        let mut held = self.held;
-        let mut reads = self.reads;
-        let mut extents = self.extents;
+        let line = self.line;
+        let mut turn = Turn {
+            at: 0,
+            line,
+            held: self.held,
+            progress: Progress {
+                phase: self.phase,
+                reads: self.reads,
+                extents: self.extents,
+            },
+        };
         let mut stack = self.stack;
         let mut counts = self.counts;
-        let mut at: usize = 0;
-        while at < bytes.len() {
-            let t = listing_turns::advance(
-                bytes,
-                at,
-                line,
-                held,
-                phase,
-                reads,
-                extents,
-                &mut stack,
-                &mut counts,
-            );
-            at = t.at;
-            line = t.line;
-            held = t.held;
-            phase = t.phase;
-            reads = t.reads;
-            extents = t.extents;
+        while turn.at < bytes.len() {
+            turn = listing_turns::advance(bytes, turn, &mut stack, &mut counts);
         }
-        stands(line, held, phase, reads, extents, stack, counts)
+        stands(turn, stack, counts)
     }
 
     // Whether the text taken is listed or refused, if it ends here.

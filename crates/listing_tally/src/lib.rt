@@ -25,21 +25,22 @@ pub enum Phase {
 }
 
 // How far a text is, the reads taken, and how many extents they have.
-#[derive(Drop)]
+#[derive(Clone, Copy)]
 pub struct Progress {
     pub phase: Phase,
     pub reads: u32,
     pub extents: usize,
 }
 
-// A text refused with this number, its tally as it is.
-fn refused(n: u32, reads: u32, extents: usize) -> Progress
-    ensures { result ≡ refused n reads extents }
-{
-    Progress {
-        phase: Phase::Stopped(n),
-        reads,
-        extents,
+impl Progress {
+    // The text is refused with this number, its tally as it is.
+    fn refused(self, n: u32) -> Progress
+        ensures { result ≡ refused n self.reads self.extents }
+    {
+        Progress {
+            phase: Phase::Stopped(n),
+            ..self
+        }
     }
 }
 
@@ -47,26 +48,20 @@ fn refused(n: u32, reads: u32, extents: usize) -> Progress
 fn gone_on(ends: bool, reads: u32, extents: usize) -> Progress
     ensures { result ≡ go_on ends reads extents }
 {
-    if ends {
-        return Progress {
-            phase: Phase::Whole,
-            reads,
-            extents,
-        };
-    }
+    let phase = if ends { Phase::Whole } else { Phase::Inside };
     Progress {
-        phase: Phase::Inside,
+        phase,
         reads,
         extents,
     }
 }
 
 // The first line is taken.
-fn take_head(line: &[u8], reads: u32, extents: usize) -> Progress
-    ensures { result ≡ head_taken reads extents (head_found (after trace_word line.now)) }
+fn take_head(line: &[u8], progress: Progress) -> Progress
+    ensures { result ≡ head_taken progress.reads progress.extents (head_found (after trace_word line.now)) }
 {
     let Some(ends) = listing_lines::head_of(line) else {
-        return refused(1, reads, extents);
+        return progress.refused(1);
     };
     gone_on(ends, 0, 0)
 }
@@ -75,23 +70,23 @@ fn take_head(line: &[u8], reads: u32, extents: usize) -> Progress
 fn take_read(
     x: u64,
     ends: bool,
-    reads: u32,
-    extents: usize,
+    progress: Progress,
     stack: &mut [u32],
     counts: &mut [u32],
 ) -> Progress
-    ensures { stands_at result stack.new counts.new ≡ read_taken reads extents stack.old counts.old x ends }
+    ensures { stands_at result stack.new counts.new ≡ read_taken progress.reads progress.extents stack.old counts.old x ends }
 {
+    let Progress { reads, extents, .. } = progress;
     let wide = MAX_EXTENT < x;
     let full = reuse::MAX_READS <= reads;
     if wide {
-        return refused(2, reads, extents);
+        return progress.refused(2);
     }
     if full {
-        return refused(8, reads, extents);
+        return progress.refused(8);
     }
     if counts.len() < stack.len() {
-        return refused(7, reads, extents);
+        return progress.refused(7);
     }
     let place = reuse_engine::touch(stack, extents, x as u32);
     match place {
@@ -101,35 +96,28 @@ fn take_read(
         }
         Place::Depth(d) => {
             let i = d - 1;
-            counts[i] = std::num::wrapping_add_u32(counts[i], 1);
+            counts[i] = counts[i].wrapping_add(1);
             gone_on(ends, reads + 1, extents)
         }
-        Place::Full => refused(9, reads, extents),
-        Place::BadCount => refused(7, reads, extents),
+        Place::Full => progress.refused(9),
+        Place::BadCount => progress.refused(7),
     }
 }
 
 // A line is taken into the rows of a tally, on any rows.
-pub fn take_line(
-    line: &[u8],
-    phase: Phase,
-    reads: u32,
-    extents: usize,
-    stack: &mut [u32],
-    counts: &mut [u32],
-) -> Progress
-    ensures { stands_at result stack.new counts.new ≡ line_taken reads extents stack.old counts.old phase line.now }
+pub fn take_line(line: &[u8], progress: Progress, stack: &mut [u32], counts: &mut [u32]) -> Progress
+    ensures { stands_at result stack.new counts.new ≡ line_taken progress.reads progress.extents stack.old counts.old progress.phase line.now }
 {
-    match phase {
-        Phase::Empty => take_head(line, reads, extents),
+    match progress.phase {
+        Phase::Empty => take_head(line, progress),
         Phase::Inside => {
             let Some((x, ends)) = listing_lines::row_of(line) else {
-                return refused(1, reads, extents);
+                return progress.refused(1);
             };
-            take_read(x, ends, reads, extents, stack, counts)
+            take_read(x, ends, progress, stack, counts)
         }
-        Phase::Whole => refused(1, reads, extents),
-        Phase::Stopped(n) => refused(n, reads, extents),
+        Phase::Whole => progress.refused(1),
+        Phase::Stopped(n) => progress.refused(n),
     }
 }
 
@@ -138,26 +126,21 @@ pub fn end_line(
     line: [u8; LONGEST],
     held: usize,
     rest: &[u8],
-    phase: Phase,
-    reads: u32,
-    extents: usize,
+    progress: Progress,
     stack: &mut [u32],
     counts: &mut [u32],
 ) -> Progress
-    ensures { stands_at result stack.new counts.new ≡ end_taken reads extents stack.old counts.old phase line held rest.now }
+    ensures { stands_at result stack.new counts.new ≡ end_taken progress.reads progress.extents stack.old counts.old progress.phase line held rest.now }
 {
-    if LONGEST < held {
-        return refused(1, reads, extents);
-    }
-    if LONGEST - held < rest.len() {
-        return refused(1, reads, extents);
+    if LONGEST < held || LONGEST - held < rest.len() {
+        return progress.refused(1);
     }
     let none = held == 0;
     if none {
-        return take_line(rest, phase, reads, extents, stack, counts);
+        return take_line(rest, progress, stack, counts);
     }
     let mut whole = line;
     reuse_copies::put(&mut whole, held, rest);
     let n = held + rest.len();
-    take_line(&whole[..n], phase, reads, extents, stack, counts)
+    take_line(&whole[..n], progress, stack, counts)
 }

@@ -49,10 +49,10 @@ pub record Turned (bytes : List ℕ) (from : ℕ) (before : State) (r : Turn) (s
   pub inside : r.at ≤ length bytes
   pub wide : length r.line ≡ longest_line
   pub fits : r.held ≤ longest_line
-  pub tally : Tallied r.reads r.extents stack counts
-  pub goes : r.at < length bytes → is_stopped r.phase ≡ false
+  pub tally : Tallied r.progress.reads r.progress.extents stack counts
+  pub goes : r.at < length bytes → is_stopped r.progress.phase ≡ false
   pub same : unnumbered (take_piece before (drop from bytes))
-      ≡ unnumbered (take_piece (state_in r.phase r.reads r.extents stack counts (take r.held r.line)) (drop r.at bytes))
+      ≡ unnumbered (take_piece (state_in r.progress.phase r.progress.reads r.progress.extents stack counts (take r.held r.line)) (drop r.at bytes))
 
 -- a text that is not refused is somewhere
 going : (phase : Phase) (t : Tally) → is_stopped phase ≡ false → (s : Taken) × (taken_by phase t ≡ to s)
@@ -103,7 +103,7 @@ module _ (bytes : List ℕ) (pos : ℕ) (line : List ℕ) (held : ℕ) (phase : 
   left-long = length-drop pos bytes
 
   -- the line is too long
-  turn-long : longest_line < held + n → Turned bytes pos before (record { at = length bytes; line = line; held = 0; phase = Stopped 1; reads = reads; extents = extents }) stack counts
+  turn-long : longest_line < held + n → Turned bytes pos before (record { at = length bytes; line = line; held = 0; progress = record { phase = Stopped 1; reads = reads; extents = extents } }) stack counts
   turn-long h =
       let l : List ℕ = drop pos bytes in
       let j : ℕ = longest_line - held in
@@ -183,7 +183,7 @@ module _ (bytes : List ℕ) (pos : ℕ) (line : List ℕ) (held : ℕ) (phase : 
           ∙ ap (λ (a : Answer Taken). unnumbered (take_piece (state_by a []) (drop (suc (pos + n)) bytes))) (sym (line_taken_lem.0 ∙ ap (λ (a : Answer Taken). and_then a (take held line ++ rest)) here.1))
 
       -- the text is refused
-      turn_stopped : is_stopped p.phase ≡ true → Turned bytes pos before (record { at = length bytes; line = line; held = 0; phase = p.phase; reads = p.reads; extents = p.extents }) stack' counts'
+      turn_stopped : is_stopped p.phase ≡ true → Turned bytes pos before (record { at = length bytes; line = line; held = 0; progress = p }) stack' counts'
       turn_stopped z =
           let s = gone-stop p.phase (tally_in p.reads p.extents stack' counts') z in
           let f : (l : List ℕ) → take_piece (state_by (taken_in p stack' counts') []) l ≡ stopped 0 s.0 = λ l. ap (λ (a : Answer Taken). take_piece (state_by a []) l) s.1 ∙ stay s.0 l in
@@ -198,7 +198,7 @@ module _ (bytes : List ℕ) (pos : ℕ) (line : List ℕ) (held : ℕ) (phase : 
           }
 
       -- it goes on
-      turn-ended : is_stopped p.phase ≡ false → Turned bytes pos before (record { at = pos + n + 1; line = line; held = 0; phase = p.phase; reads = p.reads; extents = p.extents }) stack' counts'
+      turn-ended : is_stopped p.phase ≡ false → Turned bytes pos before (record { at = pos + n + 1; line = line; held = 0; progress = p }) stack' counts'
       turn-ended z =
           let i : suc (pos + n) ≡ pos + n + 1 = omega arith in
           record {

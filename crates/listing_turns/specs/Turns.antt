@@ -28,7 +28,7 @@ reaches turn stack counts = record { turn = turn; stack = stack; counts = counts
 
 -- at this position with these bytes held
 abbrev pub turn_at : ℕ → List ℕ → ℕ → Phase → ℕ → ℕ → Turn
-turn_at at line held phase reads extents = record { at = at; line = line; held = held; phase = phase; reads = reads; extents = extents }
+turn_at at line held phase reads extents = record { at = at; line = line; held = held; progress = record { phase = phase; reads = reads; extents = extents } }
 
 -- the turn after a line: on to the next one, or past the whole piece where the text is refused
 abbrev pub turn_after : List ℕ → Progress → ℕ → ℕ → Turn
@@ -36,9 +36,7 @@ turn_after line p next len = record {
   at = cond (is_stopped p.phase) len next;
   line = line;
   held = 0;
-  phase = p.phase;
-  reads = p.reads;
-  extents = p.extents;
+  progress = p;
 }
 
 -- what is reached by it

@@ -112,7 +112,7 @@ fn spread(marks: &mut [u32], m: usize, rights: &[u32]) -> bool
             good = false;
         }
         marks[2 * i + 1] = sum;
-        marks[2 * i] = remaining(total, sum as u64);
+        marks[2 * i] = total.saturating_sub(sum);
     }
     good
 }

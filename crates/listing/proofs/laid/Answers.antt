@@ -33,16 +33,16 @@ pub slice_bounds-stack-end : goal.slice_bounds-stack-end
 slice_bounds-stack-end c = omega (arith, stack-wide (goal.at.slice_bounds-stack-end c).Start, c.requires.1)
 
 pub slice_bounds-padded-end : goal.slice_bounds-padded-end
-slice_bounds-padded-end c = sym (length-take-le c.args.extents c.args.stack (omega (arith, stack-wide (goal.at.slice_bounds-padded-end c).Start, c.requires.1)))
+slice_bounds-padded-end c = sym (length-take-le c.args.progress.extents c.args.stack (omega (arith, stack-wide (goal.at.slice_bounds-padded-end c).Start, c.requires.1)))
 
 pub slice_bounds-counts-end : goal.slice_bounds-counts-end
 slice_bounds-counts-end c = omega (arith, counts-wide (goal.at.slice_bounds-counts-end c).Start, c.requires.1)
 
 pub slice_bounds-padded-end-2 : goal.slice_bounds-padded-end-2
-slice_bounds-padded-end-2 c = sym (length-take-le c.args.extents c.args.counts (omega (arith, counts-wide (goal.at.slice_bounds-padded-end-2 c).Start, c.requires.1)))
+slice_bounds-padded-end-2 c = sym (length-take-le c.args.progress.extents c.args.counts (omega (arith, counts-wide (goal.at.slice_bounds-padded-end-2 c).Start, c.requires.1)))
 
 pub returns : goal.returns
 unfolding blank_line
 returns c =
     let a = c.args in
-    laid-is c.args.line a.held a.phase a.reads a.extents c.args.stack c.args.counts c.requires.0 (line-wide (goal.at.returns c).Start) c.requires.1 (stack-wide (goal.at.returns c).Start) _ c.put.ensures _ c.padded-recent.ensures _ c.padded-counted.ensures
+    laid-is c.args.line a.held a.progress.phase a.progress.reads a.progress.extents c.args.stack c.args.counts c.requires.0 (line-wide (goal.at.returns c).Start) c.requires.1 (stack-wide (goal.at.returns c).Start) _ c.put.ensures _ c.padded-recent.ensures _ c.padded-counted.ensures

@@ -4,13 +4,13 @@ use Rattle.listing.proofs.Listers.{stands-empty, stands-inside, stands-whole, st
 use Rattle.listing.proofs.stands.Goals as goal
 
 pub returns-in-Empty : goal.returns-in-Empty
-returns-in-Empty c = let a = c.args in c.laid.ensures ∙ stands-empty a.line a.held a.phase a.reads a.extents a.stack a.counts c.in-Empty.is
+returns-in-Empty c = let a = c.args in c.laid.ensures ∙ stands-empty a.turn.line a.turn.held a.turn.progress.phase a.turn.progress.reads a.turn.progress.extents a.stack a.counts c.in-Empty.is
 
 pub returns-in-Inside : goal.returns-in-Inside
-returns-in-Inside c = let a = c.args in c.laid-in-Inside.ensures ∙ stands-inside a.line a.held a.phase a.reads a.extents a.stack a.counts c.in-Inside.is
+returns-in-Inside c = let a = c.args in c.laid-in-Inside.ensures ∙ stands-inside a.turn.line a.turn.held a.turn.progress.phase a.turn.progress.reads a.turn.progress.extents a.stack a.counts c.in-Inside.is
 
 pub returns-in-Whole : goal.returns-in-Whole
-returns-in-Whole c = let a = c.args in c.laid-in-Whole.ensures ∙ stands-whole a.line a.held a.phase a.reads a.extents a.stack a.counts c.in-Whole.is
+returns-in-Whole c = let a = c.args in c.laid-in-Whole.ensures ∙ stands-whole a.turn.line a.turn.held a.turn.progress.phase a.turn.progress.reads a.turn.progress.extents a.stack a.counts c.in-Whole.is
 
 pub returns-in-Stopped : goal.returns-in-Stopped
-returns-in-Stopped c = let a = c.args in c.laid-in-Stopped.ensures ∙ stands-stopped a.line a.held a.phase a.reads a.extents a.stack a.counts _ c.in-Stopped.is
+returns-in-Stopped c = let a = c.args in c.laid-in-Stopped.ensures ∙ stands-stopped a.turn.line a.turn.held a.turn.progress.phase a.turn.progress.reads a.turn.progress.extents a.stack a.counts _ c.in-Stopped.is

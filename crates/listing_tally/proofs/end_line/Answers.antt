@@ -10,15 +10,12 @@ line-wide : (c : Start) → length c.args.line ≡ longest_line
 line-wide c = search rules
 
 pub returns-then-held-gt-LONGEST : goal.returns-then-held-gt-LONGEST
-returns-then-held-gt-LONGEST c = let a = c.args in end-long a.reads a.extents a.stack.now a.counts.now a.phase a.line a.held a.rest.now (omega arith) c.refused.result c.refused.ensures
-
-pub returns-then-held-rest : goal.returns-then-held-rest
-returns-then-held-rest c = let a = c.args in end-long a.reads a.extents a.stack.now a.counts.now a.phase a.line a.held a.rest.now (omega arith) c.refused-then-held-rest.result c.refused-then-held-rest.ensures
+returns-then-held-gt-LONGEST c = let a = c.args in end-long a.progress.reads a.progress.extents a.stack.now a.counts.now a.progress.phase a.line a.held a.rest.now (omega arith) c.refused.result c.refused.ensures
 
 pub returns-then-none : goal.returns-then-none
 returns-then-none c =
     let a = c.args in
-    end-taken a.reads a.extents a.stack.now a.counts.now a.phase a.line a.held a.rest.now (omega arith) a.rest.now (none-held a.line a.held a.rest.now (omega arith)) _ c.take_line.ensures
+    end-taken a.progress.reads a.progress.extents a.stack.now a.counts.now a.progress.phase a.line a.held a.rest.now (omega arith) a.rest.now (none-held a.line a.held a.rest.now (omega arith)) _ c.take_line.ensures
 
 pub slice_bounds-take_line-end : goal.slice_bounds-take_line-end
 slice_bounds-take_line-end c = sym (length-take-le _ _ (omega (arith, c.put.auto.out, line-wide (goal.at.slice_bounds-take_line-end c).Start)))
@@ -27,4 +24,4 @@ pub returns : goal.returns
 returns c =
     let a = c.args in
     let k = c.put in
-    end-taken a.reads a.extents a.stack.now a.counts.now a.phase a.line a.held a.rest.now (omega arith) _ (rest_put a.line a.held a.rest.now (omega (arith, line-wide (goal.at.returns c).Start)) k.new.out k.ensures) _ c.take_line-2.ensures
+    end-taken a.progress.reads a.progress.extents a.stack.now a.counts.now a.progress.phase a.line a.held a.rest.now (omega arith) _ (rest_put a.line a.held a.rest.now (omega (arith, line-wide (goal.at.returns c).Start)) k.new.out k.ensures) _ c.take_line-2.ensures

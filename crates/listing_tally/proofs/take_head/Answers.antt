@@ -6,9 +6,9 @@ use Rattle.listing_tally.proofs.take_head.Goals as goal
 pub returns-in_default : goal.returns-in_default
 returns-in_default c =
     let a = c.args in
-    c.refused.ensures ∙ ap (head_taken a.reads a.extents) c.in_default.ensures
+    c.refused.ensures ∙ ap (head_taken a.progress.reads a.progress.extents) c.in_default.ensures
 
 pub returns : goal.returns
 returns c =
     let a = c.args in
-    c.gone_on.ensures ∙ ap (head_taken a.reads a.extents) c.in-Some.ensures
+    c.gone_on.ensures ∙ ap (head_taken a.progress.reads a.progress.extents) c.in-Some.ensures

@@ -9,24 +9,24 @@ use Rattle.listing_tally.proofs.take_line.Goals as goal
 pub returns-in_default : goal.returns-in_default
 returns-in_default c =
     let a = c.args in
-    line_row a.reads a.extents a.stack.now a.counts.now a.phase a.line.now c.in-Inside.is None c.in_default.ensures (stands_at c.refused.result a.stack.now a.counts.now) (ap (λ (p : Progress). stands_at p a.stack.now a.counts.now) c.refused.ensures)
+    line_row a.progress.reads a.progress.extents a.stack.now a.counts.now a.progress.phase a.line.now c.in-Inside.is None c.in_default.ensures (stands_at c.refused.result a.stack.now a.counts.now) (ap (λ (p : Progress). stands_at p a.stack.now a.counts.now) c.refused.ensures)
 
 pub returns-in-Empty : goal.returns-in-Empty
 returns-in-Empty c =
     let a = c.args in
-    line-head a.reads a.extents a.stack.now a.counts.now a.phase a.line.now c.in-Empty.is c.take_head.result c.take_head.ensures
+    line-head a.progress.reads a.progress.extents a.stack.now a.counts.now a.progress.phase a.line.now c.in-Empty.is c.take_head.result c.take_head.ensures
 
 pub returns-in-Some : goal.returns-in-Some
 returns-in-Some c =
     let a = c.args in
-    line_row a.reads a.extents a.stack.now a.counts.now a.phase a.line.now c.in-Inside.is (Some (c.in-Some.x, c.in-Some.ends)) c.in-Some.ensures _ c.take_read.ensures
+    line_row a.progress.reads a.progress.extents a.stack.now a.counts.now a.progress.phase a.line.now c.in-Inside.is (Some (c.in-Some.x, c.in-Some.ends)) c.in-Some.ensures _ c.take_read.ensures
 
 pub returns-in-Whole : goal.returns-in-Whole
 returns-in-Whole c =
     let a = c.args in
-    line-end a.reads a.extents a.stack.now a.counts.now a.phase a.line.now c.in-Whole.is c.refused-in-Whole.result c.refused-in-Whole.ensures
+    line-end a.progress.reads a.progress.extents a.stack.now a.counts.now a.progress.phase a.line.now c.in-Whole.is c.refused-in-Whole.result c.refused-in-Whole.ensures
 
 pub returns-in-Stopped : goal.returns-in-Stopped
 returns-in-Stopped c =
     let a = c.args in
-    line-stop a.reads a.extents a.stack.now a.counts.now a.phase a.line.now c.in-Stopped.n c.in-Stopped.is c.refused-in-Stopped.result c.refused-in-Stopped.ensures
+    line-stop a.progress.reads a.progress.extents a.stack.now a.counts.now a.progress.phase a.line.now c.in-Stopped.n c.in-Stopped.is c.refused-in-Stopped.result c.refused-in-Stopped.ensures

@@ -1,31 +1,31 @@
 -- `listing_tally::take_read` meets its contract.
-use Rattle.std.proofs.Common.{◌-◌, ◌<◌, ◌≤◌, length, arith, rules}
+use Rattle.std.proofs.Common.{◌-◌, ◌<◌, ◌≤◌, length, refl, arith, rules}
 use Rattle.listing_tally.proofs.Answers.{new-room, known-room, read-large, read-many, read_short, read-new, read_known, read-full, read-bad}
 use Rattle.listing_tally.proofs.take_read.Goals as goal
 use Rattle.listing_tally.proofs.take_read.Goals.{In-Cold, In-Depth}
 
 -- room for a new extent
-room : (c : In-Cold) → let a = c.args in (a.extents < length a.stack.now) × (a.extents < length a.counts.now)
+room : (c : In-Cold) → let a = c.args in (a.progress.extents < length a.stack.now) × (a.progress.extents < length a.counts.now)
 room c =
     let a = c.args in
     let t = c.touch-place in
-    new-room a.reads a.extents a.stack.now a.counts.now a.x t.result t.ensures.0 (omega arith) c.in-Cold.is
+    new-room a.progress.reads a.progress.extents a.stack.now a.counts.now a.x t.result t.ensures.0 (omega arith) c.in-Cold.is
 
 -- where the count of a distance stands
 place_is : (c : In-Depth) → let d = c.in-Depth.d in (1 ≤ d) × (d - 1 < length c.args.counts.now)
 place_is c =
     let a = c.args in
     let t = c.touch-place in
-    known-room a.reads a.extents a.stack.now a.counts.now a.x t.result t.ensures.0 (omega arith) c.in-Depth.d c.in-Depth.is
+    known-room a.progress.reads a.progress.extents a.stack.now a.counts.now a.x t.result t.ensures.0 (omega arith) c.in-Depth.d c.in-Depth.is
 
 pub returns-then-wide : goal.returns-then-wide
-returns-then-wide c = let a = c.args in read-large a.reads a.extents a.stack.now a.counts.now a.x a.ends _ (omega arith) (search rules)
+returns-then-wide c = let a = c.args in read-large a.progress.reads a.progress.extents a.stack.now a.counts.now a.x a.ends _ (omega arith) (search rules)
 
 pub returns-then-full : goal.returns-then-full
-returns-then-full c = let a = c.args in read-many a.reads a.extents a.stack.now a.counts.now a.x a.ends _ (omega arith) (omega arith) (search rules)
+returns-then-full c = let a = c.args in read-many a.progress.reads a.progress.extents a.stack.now a.counts.now a.x a.ends _ (omega arith) (omega arith) (search rules)
 
 pub returns-then-counts-stack : goal.returns-then-counts-stack
-returns-then-counts-stack c = let a = c.args in read_short a.reads a.extents a.stack.now a.counts.now a.x a.ends c.refused-then-counts-stack.result (omega arith) (omega arith) (omega arith) c.refused-then-counts-stack.ensures
+returns-then-counts-stack c = let a = c.args in read_short a.progress.reads a.progress.extents a.stack.now a.counts.now a.x a.ends c.refused-then-counts-stack.result (omega arith) (omega arith) (omega arith) c.refused-then-counts-stack.ensures
 
 pub offset_bounds-counts-extents : goal.offset_bounds-counts-extents
 offset_bounds-counts-extents c = omega (arith, room c)
@@ -55,22 +55,22 @@ pub returns-in-Cold : goal.returns-in-Cold
 returns-in-Cold c =
     let a = c.args in
     let t = c.touch-place in
-    read-new a.reads a.extents a.stack.now a.counts.now a.x a.ends c.gone_on.result t.result t.ensures.0 (omega arith) (omega arith) (omega arith) t.new.stack t.ensures.1 c.in-Cold.is c.gone_on.ensures
+    read-new a.progress.reads a.progress.extents a.stack.now a.counts.now a.x a.ends c.gone_on.result t.result t.ensures.0 (omega arith) (omega arith) (omega arith) t.new.stack t.ensures.1 c.in-Cold.is c.gone_on.ensures
 
 pub returns-in-Depth : goal.returns-in-Depth
 returns-in-Depth c =
     let a = c.args in
     let t = c.touch-place in
-    read_known a.reads a.extents a.stack.now a.counts.now a.x a.ends c.gone_on-in-Depth.result t.result t.ensures.0 (omega arith) (omega arith) (omega arith) t.new.stack t.ensures.1 c.in-Depth.d c.in-Depth.is c.wrapping_add_u32.result c.wrapping_add_u32.ensures.value c.gone_on-in-Depth.ensures
+    read_known a.progress.reads a.progress.extents a.stack.now a.counts.now a.x a.ends c.gone_on-in-Depth.result t.result t.ensures.0 (omega arith) (omega arith) (omega arith) t.new.stack t.ensures.1 c.in-Depth.d c.in-Depth.is _ refl c.gone_on-in-Depth.ensures
 
 pub returns-in-Full : goal.returns-in-Full
 returns-in-Full c =
     let a = c.args in
     let t = c.touch-place in
-    read-full a.reads a.extents a.stack.now a.counts.now a.x a.ends c.refused-in-Full.result t.result t.ensures.0 (omega arith) (omega arith) (omega arith) t.new.stack t.ensures.1 c.in-Full.is c.refused-in-Full.ensures
+    read-full a.progress.reads a.progress.extents a.stack.now a.counts.now a.x a.ends c.refused-in-Full.result t.result t.ensures.0 (omega arith) (omega arith) (omega arith) t.new.stack t.ensures.1 c.in-Full.is c.refused-in-Full.ensures
 
 pub returns-in-BadCount : goal.returns-in-BadCount
 returns-in-BadCount c =
     let a = c.args in
     let t = c.touch-place in
-    read-bad a.reads a.extents a.stack.now a.counts.now a.x a.ends c.refused-in-BadCount.result t.result t.ensures.0 (omega arith) (omega arith) (omega arith) t.new.stack t.ensures.1 c.in-BadCount.is c.refused-in-BadCount.ensures
+    read-bad a.progress.reads a.progress.extents a.stack.now a.counts.now a.x a.ends c.refused-in-BadCount.result t.result t.ensures.0 (omega arith) (omega arith) (omega arith) t.new.stack t.ensures.1 c.in-BadCount.is c.refused-in-BadCount.ensures

@@ -1,5 +1,5 @@
 -- `listing_turns::advance` meets its contract.
-use mathlib.Core.Path.{◌≡◌, ap}
+use mathlib.Core.Path.{◌≡◌, refl, ap}
 use Prim.Native.Nat.{ℕ, ◌+◌, ◌-◌, ◌≤◌, ◌<◌}
 use native.Mathlib.Omega.{arith}
 use mathlib.Core.List.{List}
@@ -11,20 +11,20 @@ use Rattle.listing_turns.proofs.advance.Goals as goal
 use Rattle.listing_turns.proofs.advance.Goals.{After-line_length-n, Else-held-gt-LONGEST, Joined-else-end-bytes}
 
 -- no more is held than fits
-fits : (c : Else-held-gt-LONGEST) → c.args.held ≤ 19
+fits : (c : Else-held-gt-LONGEST) → c.args.turn.held ≤ 19
 fits c = c.if-held-gt-LONGEST.false
 
 -- the bytes counted stand in the piece
-within : (c : After-line_length-n) → (c.args.at + c.line_length-n.result ≤ length c.args.bytes.now) × (c.line_length-n.result ≤ 20 - c.args.held)
+within : (c : After-line_length-n) → (c.args.turn.at + c.line_length-n.result ≤ length c.args.bytes.now) × (c.line_length-n.result ≤ 20 - c.args.turn.held)
 within c =
     let a = c.args in
-    length-within a.bytes.now a.at (20 - a.held) c.line_length-n.result c.if-bytes-at.false c.line_length-n.ensures
+    length-within a.bytes.now a.turn.at (20 - a.turn.held) c.line_length-n.result c.if-bytes-at.false c.line_length-n.ensures
 
 -- a line that does not end in the piece is too long
 over : (c : Joined-else-end-bytes) →
     let a = c.args in
     let n = c.line_length-n.result in
-    a.at + n ≡ length a.bytes.now → 19 < a.held + n
+    a.turn.at + n ≡ length a.bytes.now → 19 < a.turn.held + n
 over c e = ⊎_elim (λ w. w.1) (λ w. absurd (w e)) c.else-end-bytes.either
 
 -- a part of n bytes
@@ -35,8 +35,8 @@ pub returns-then-bytes-at : goal.returns-then-bytes-at
 returns-then-bytes-at c =
     let a = c.args in
     ⊎_elim
-    (λ w. way-past a.bytes.now a.at a.line a.held a.phase a.reads a.extents a.stack.now a.counts.now w _ c.kept.ensures)
-    (λ w. way-over a.bytes.now a.at a.line a.held a.phase a.reads a.extents a.stack.now a.counts.now w.1 _ c.kept.ensures)
+    (λ w. way-past a.bytes.now a.turn.at a.turn.line a.turn.held a.turn.progress.phase a.turn.progress.reads a.turn.progress.extents a.stack.now a.counts.now w _ refl)
+    (λ w. way-over a.bytes.now a.turn.at a.turn.line a.turn.held a.turn.progress.phase a.turn.progress.reads a.turn.progress.extents a.stack.now a.counts.now w.1 _ refl)
     c.then-bytes-at.either
 
 pub overflow_sub-held : goal.overflow_sub-held
@@ -52,7 +52,7 @@ pub returns-then-all-le-LONGEST : goal.returns-then-all-le-LONGEST
 returns-then-all-le-LONGEST c =
     let a = c.args in
     let n = c.line_length-n in
-    way-kept a.bytes.now a.at a.line a.held a.phase a.reads a.extents a.stack.now a.counts.now c.if-bytes-at.false (fits (goal.at.returns-then-all-le-LONGEST c).Else-held-gt-LONGEST) n.result n.ensures _ (rest_of a.at n.result a.bytes.now) c.if-end-bytes.true c.if-all-le-LONGEST.true _ c.put.ensures _ c.kept-then-all-le-LONGEST.ensures
+    way-kept a.bytes.now a.turn.at a.turn.line a.turn.held a.turn.progress.phase a.turn.progress.reads a.turn.progress.extents a.stack.now a.counts.now c.if-bytes-at.false (fits (goal.at.returns-then-all-le-LONGEST c).Else-held-gt-LONGEST) n.result n.ensures _ (rest_of a.turn.at n.result a.bytes.now) c.if-end-bytes.true c.if-all-le-LONGEST.true _ c.put.ensures _ refl
 
 pub slice_bounds-rest-end : goal.slice_bounds-rest-end
 slice_bounds-rest-end c = (within (goal.at.slice_bounds-rest-end c).After-line_length-n).0
@@ -65,4 +65,4 @@ returns c =
     let a = c.args in
     let n = c.line_length-n in
     let e = c.end_line-p in
-    way-line a.bytes.now a.at a.line a.held a.phase a.reads a.extents a.stack.now a.counts.now c.if-bytes-at.false (fits (goal.at.returns c).Else-held-gt-LONGEST) n.result n.ensures _ (rest_of a.at n.result a.bytes.now) (over (goal.at.returns c).Joined-else-end-bytes) e.result _ _ e.ensures _ c.turned.ensures
+    way-line a.bytes.now a.turn.at a.turn.line a.turn.held a.turn.progress.phase a.turn.progress.reads a.turn.progress.extents a.stack.now a.counts.now c.if-bytes-at.false (fits (goal.at.returns c).Else-held-gt-LONGEST) n.result n.ensures _ (rest_of a.turn.at n.result a.bytes.now) (over (goal.at.returns c).Joined-else-end-bytes) e.result _ _ e.ensures _ c.turned.ensures

@@ -10,8 +10,8 @@ pub loop-i-preserved : goal.loop-i-preserved
 loop-i-preserved c =
     let l = c.loop-i in
     elim c.if-over.branch [
-      | then-over w ↦ rw (w.good-is, c.remaining.ensures) (spread-above _ _ _ _ _ _ l.invariant (omega arith) w.if-over.true)
-      | else-over w ↦ rw (w.good-is, c.remaining.ensures) (spread-within _ _ _ _ _ _ l.invariant (omega arith) w.if-over.false)
+      | then-over w ↦ rw (w.good-is, c.saturating_sub.ensures) (spread-above _ _ _ _ _ _ l.invariant (omega arith) w.if-over.true)
+      | else-over w ↦ rw (w.good-is, c.saturating_sub.ensures) (spread-within _ _ _ _ _ _ l.invariant (omega arith) w.if-over.false)
     ]
 
 pub returns : goal.returns

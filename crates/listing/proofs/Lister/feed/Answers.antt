@@ -27,33 +27,33 @@ returns-then-not-takes_more c =
     let a = c.args in
     sym (fed-idle a.self a.bytes.now (sym c.takes_more.ensures ∙ c.if-not-takes_more.true))
 
-pub loop-at-init : goal.loop-at-init
-loop-at-init c =
+pub loop-turn-init : goal.loop-turn-init
+loop-turn-init c =
     let a = c.args in
-    let s = sound-is (goal.at.loop-at-init c).Else-not-takes_more in
+    let s = sound-is (goal.at.loop-turn-init c).Else-not-takes_more in
     let f = sound-facts a.self s.1 (search rules) (search rules) in
     fed-start a.bytes.now (state_in a.self.phase a.self.reads a.self.extents a.self.stack a.self.counts (take a.self.held a.self.line)) a.self.phase a.self.line a.self.held a.self.reads a.self.extents a.self.stack a.self.counts
     refl f.0 (search rules) f.1 s.0
 
 pub slice_bounds-advance-end : goal.slice_bounds-advance-end
-slice_bounds-advance-end c = sym c.loop-at.invariant.tally.stack-wide
+slice_bounds-advance-end c = sym c.loop-turn.invariant.tally.stack-wide
 
-pub slice_bounds-advance-end-in-loop-at : goal.slice_bounds-advance-end-in-loop-at
-slice_bounds-advance-end-in-loop-at c = sym c.loop-at.invariant.tally.counts-wide
+pub slice_bounds-advance-end-in-loop-turn : goal.slice_bounds-advance-end-in-loop-turn
+slice_bounds-advance-end-in-loop-turn c = sym c.loop-turn.invariant.tally.counts-wide
 
-pub loop-at-smaller : goal.loop-at-smaller
-loop-at-smaller c = let t = fed-on _ _ _ _ _ _ _ _ _ _ c.loop-at.invariant (omega arith) _ _ _ c.advance-t.ensures in omega (arith, t.forward, t.inside)
+pub loop-turn-smaller : goal.loop-turn-smaller
+loop-turn-smaller c = let t = fed-on _ _ _ _ _ _ _ _ _ _ c.loop-turn.invariant (omega arith) _ _ _ c.advance-turn.ensures in omega (arith, t.forward, t.inside)
 
-pub loop-at-preserved : goal.loop-at-preserved
-loop-at-preserved c = fed-turn _ _ _ _ _ _ _ _ _ _ c.loop-at.invariant (omega arith) _ _ _ c.advance-t.ensures
+pub loop-turn-preserved : goal.loop-turn-preserved
+loop-turn-preserved c = fed-turn _ _ _ _ _ _ _ _ _ _ c.loop-turn.invariant (omega arith) _ _ _ c.advance-turn.ensures
 
 pub stands-requires : goal.stands-requires
-stands-requires c = let f = c.loop-at.invariant in (f.fits, f.tally.few)
+stands-requires c = let f = c.loop-turn.invariant in (f.fits, f.tally.few)
 
 pub returns : goal.returns
 returns c =
     let a = c.args in
     c.stands.ensures
-    ∙ fed-lister _ _ _ _ _ _ _ _ _ _ c.loop-at.invariant (omega arith)
+    ∙ fed-lister _ _ _ _ _ _ _ _ _ _ c.loop-turn.invariant (omega arith)
     ∙ ap (λ (v : State). lister_of (take_piece v a.bytes.now)) (sym (state-sound a.self (sound-is (goal.at.returns c).Else-not-takes_more).1))
     ∙ sym (fed-more a.self a.bytes.now (takes (goal.at.returns c).Else-not-takes_more))

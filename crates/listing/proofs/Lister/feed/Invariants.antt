@@ -5,9 +5,11 @@ use Rattle.listing_turns.proofs.Turns.{state_in}
 use Rattle.listing.proofs.Feeds.{PieceTaken}
 use Rattle.listing.proofs.Lister.feed.Given as goal
 
-abbrev pub invariant-loop-at : goal.invariant-loop-at
-invariant-loop-at l =
-    PieceTaken l.bytes (state_in l.initial.phase l.initial.reads l.initial.extents l.initial.stack l.initial.counts (take l.initial.held l.initial.line)) l.phase l.line l.held l.reads l.extents l.stack l.counts l.at
+abbrev pub invariant-loop-turn : goal.invariant-loop-turn
+invariant-loop-turn l =
+    let first = l.initial.turn in
+    let next = l.turn in
+    PieceTaken l.bytes (state_in first.progress.phase first.progress.reads first.progress.extents l.initial.stack l.initial.counts (take first.held first.line)) next.progress.phase next.line next.held next.progress.reads next.progress.extents l.stack l.counts next.at
 
-abbrev pub decreases-loop-at : goal.decreases-loop-at
-decreases-loop-at l = length l.bytes - l.at
+abbrev pub decreases-loop-turn : goal.decreases-loop-turn
+decreases-loop-turn l = length l.bytes - l.turn.at
