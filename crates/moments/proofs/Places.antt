@@ -1,4 +1,5 @@
 -- The places of the names: a naming fills its own and leaves the others.
+use Rattle.std.specs.Prelude.{Some}
 use mathlib.Core.Path.{◌≡◌, refl, sym, ap, ◌∙◌}
 use Prim.Native.Nat.{ℕ, suc, ◌+◌, ◌-◌, ◌≤◌, ◌<◌}
 use native.Mathlib.Omega.{arith}
@@ -16,7 +17,6 @@ use Rattle.reuse_rows.specs.Rows.{put_at, placed}
 use Rattle.reuse_copies.proofs.Puts.{put-cons, put-length, put-before, put-there, put-after}
 use Rattle.session.specs.Sessions.{Wide}
 use Rattle.session.specs.declared.Session.{Session}
-use Rattle.session_layout.specs.declared.Kept.{Kept}
 use Rattle.session_layout.specs.Layout.{session_length, part, kept_in, session_laid}
 use Rattle.session_layout.proofs.Laid.{placed-whole, laid-length, read_whole}
 use Rattle.session_layout.proofs.Enough.{kept-all}
@@ -168,18 +168,16 @@ module _ (names : List ℕ) (k : ℕ) where
       by [] = refl
       by (x ∷ l) = refl
 
-  -- the session taken from these is the one under the name
-  pub kept_under : (at : ℕ) (r : Kept) → at ≡ place_start k → place_start k + place_length ≤ length names
-      → r ≡ kept_in (take (at + place_length - (at + 1)) (drop (at + 1) names)) → r.session ≡ session_under names k
+  -- the session taken from these, and there are enough of them, is the one under the name
+  pub kept_under : (at : ℕ) → at ≡ place_start k → place_start k + place_length ≤ length names
+      → kept_in (take (at + place_length - (at + 1)) (drop (at + 1) names)) ≡ Some (session_under names k)
   unfolding session_under
-  kept_under at r e h q =
+  kept_under at e h =
       let n : at + place_length - (at + 1) ≡ session_length = omega arith in
-      let w : r ≡ kept_in (drop 1 (place_words names k)) =
-      q ∙ ap (λ (i : ℕ). kept_in (take i (drop (at + 1) names))) n
-      ∙ ap (λ (i : ℕ). kept_in (take session_length (drop (i + 1) names))) e ∙ ap kept_in (sym after_first) in
+      let w : take (at + place_length - (at + 1)) (drop (at + 1) names) ≡ drop 1 (place_words names k) = rw (n, e) (sym after_first) in
       let l : length (drop 1 (place_words names k)) ≡ session_length =
       ap length after_first ∙ length-take-le session_length (drop (place_start k + 1) names) (omega (arith, h, length-drop (place_start k + 1) names)) in
-      ap (λ (t : Kept). t.session) (w ∙ kept-all (drop 1 (place_words names k)) (omega (arith, l)))
+      rw w (kept-all (drop 1 (place_words names k)) (omega (arith, l)))
 
 -- no name is set in new words
 pub new-unset : (names : List ℕ) → names_length ≤ length names → (k : ℕ) → is_set (new_names names).buffer k ≡ false

@@ -2,24 +2,17 @@
 #![tactic(auto)]
 
 ghost use Rattle.std.specs.Prelude.{◌≡◌, true};
-ghost use Rattle.moments.specs.Names.{is_name, place_start, is_set, new_names, name_call, return_call};
+ghost use Rattle.moments.specs.Names.{is_name, place_start, is_set, new_names, name_call, not_returned, return_call};
 
+use reuse::Refusal;
 use session::Session;
 use session_layout::SESSION;
-use summary_calls::Written;
 
 // The words of one place: whether its name is set, then a session's words.
 const PLACE: usize = 1 + SESSION;
 
 // The words of all places.
 const NAMES: usize = reuse::MAX_NAMES as usize * PLACE;
-
-// What a naming or a return answers: done, or the refusal's number.
-#[derive(Clone, Copy)]
-pub enum MomentAnswer {
-    Done,
-    Refused(u32),
-}
 
 // The present session after a return, beside the answer.
 #[derive(Drop)]
@@ -96,6 +89,16 @@ pub fn name_session(s: Session, names: &mut [u32], name: u32) -> Result<(), Refu
     Ok(())
 }
 
+// The present session stays, beside the refusal.
+fn stays(s: Session, refusal: Refusal) -> Returned
+    ensures { result ≡ not_returned refusal s }
+{
+    Returned {
+        session: s,
+        answer: Err(refusal),
+    }
+}
+
 // The session under the name becomes the present one.
 pub fn return_to(s: Session, names: &[u32], name: u32) -> Returned
     ensures { result ≡ return_call s names.now name }
@@ -105,28 +108,21 @@ pub fn return_to(s: Session, names: &[u32], name: u32) -> Returned
     let none = !known;
     let unset = !set;
     if none {
-        return Returned {
-            session: s,
-            answer: Err(Refusal::OutOfRange),
-        };
+        return stays(s, Refusal::OutOfRange);
     }
     if unset {
-        return Returned {
-            session: s,
-            answer: Err(Refusal::NameNotSet),
-        };
+        return stays(s, Refusal::NameNotSet);
     }
     let start = place_start(name);
     let from = start + 1;
     let end = start + PLACE;
     let kept = session_layout::session_in(&names[from..end]);
-    let remembered = kept.session;
+    let Some(remembered) = kept else {
+        return stays(s, Refusal::Unsound);
+    };
     let whole = remembered.sound();
     if !whole {
-        return Returned {
-            session: s,
-            answer: Err(Refusal::Unsound),
-        };
+        return stays(s, Refusal::Unsound);
     }
     Returned {
         session: remembered,

@@ -1,5 +1,5 @@
 -- `moments::return_to` meets its contract.
-use Rattle.std.specs.Prelude.{Ok}
+use Rattle.std.specs.Prelude.{Ok, Some}
 use mathlib.Core.Path.{◌≡◌, sym, ap, ◌∙◌}
 use native.Mathlib.Omega.{arith}
 use mathlib.Core.Bool.{true}
@@ -12,7 +12,7 @@ use Rattle.moments.proofs.return_to.Goals as goal
 use Rattle.moments.proofs.return_to.Goals.{After-session_in-kept, Else-none, Else-unset}
 
 pub returns-then-none : goal.returns-then-none
-returns-then-none c = sym (return-not _ _ _ (sym c.is_name-known.ensures ∙ c.if-none.true))
+returns-then-none c = c.stays.ensures ∙ sym (return-not _ _ _ (sym c.is_name-known.ensures ∙ c.if-none.true))
 
 -- the number is a name
 named : (c : Else-none) → is_name c.args.name ≡ true
@@ -24,7 +24,7 @@ set c = sym c.is_set-set.ensures ∙ c.if-unset.false
 
 pub returns-then-unset : goal.returns-then-unset
 returns-then-unset c =
-    sym (return-unset _ _ _ (named (goal.at.returns-then-unset c).Else-none) (sym c.is_set-set.ensures ∙ c.if-unset.true))
+    c.stays-then-unset.ensures ∙ sym (return-unset _ _ _ (named (goal.at.returns-then-unset c).Else-none) (sym c.is_set-set.ensures ∙ c.if-unset.true))
 
 pub place_start-start-requires : goal.place_start-start-requires
 place_start-start-requires c = named (goal.at.place_start-start-requires c).Else-none
@@ -46,22 +46,27 @@ slice_bounds-session_in-end c =
     omega (arith, c.place_start-start.ensures, set-lies _ _ (set (goal.at.slice_bounds-session_in-end c).Else-unset))
 
 -- the session taken from the words is the one under the name
-under : (c : After-session_in-kept) → c.session_in-kept.result.session ≡ session_under c.args.names.now c.args.name
+under : (c : After-session_in-kept) → c.session_in-kept.result ≡ Some (session_under c.args.names.now c.args.name)
 under c =
-    let e = c.place_start-start.ensures in
-    kept_under _ _ c.place_start-start.result c.session_in-kept.result e
-    (set-lies _ _ (sym c.is_set-set.ensures ∙ c.if-unset.false)) c.session_in-kept.ensures
+    c.session_in-kept.ensures
+    ∙ kept_under _ _ c.place_start-start.result c.place_start-start.ensures (set-lies _ _ (sym c.is_set-set.ensures ∙ c.if-unset.false))
+
+pub returns-in_default : goal.returns-in_default
+returns-in_default c = absurd (c.in_default.not-Some _ (under (goal.at.returns-in_default c).After-session_in-kept))
 
 pub returns-then-not-whole : goal.returns-then-not-whole
 returns-then-not-whole c =
     let at = goal.at.returns-then-not-whole c in
-    let asked = c.sound-whole.ensures ∙ ap sound (under at.After-session_in-kept) in
-    sym (return-unsound _ _ _ (named at.Else-none) (set at.Else-unset) (sym asked ∙ c.if-not-whole.true))
+    let kept = under at.After-session_in-kept in
+    let e : c.in-Some.remembered ≡ session_under c.args.names.now c.args.name = cc in
+    let asked = c.sound-whole.ensures ∙ ap sound e in
+    c.stays-then-not-whole.ensures ∙ sym (return-unsound _ _ _ (named at.Else-none) (set at.Else-unset) (sym asked ∙ c.if-not-whole.true))
 
 pub returns : goal.returns
 returns c =
     let at = goal.at.returns c in
-    let e = under at.After-session_in-kept in
+    let kept = under at.After-session_in-kept in
+    let e : c.in-Some.remembered ≡ session_under c.args.names.now c.args.name = cc in
     let asked = c.sound-whole.ensures ∙ ap sound e in
     ap (λ (r : Session). record { session = r; answer = Ok tt }) e
     ∙ sym (return-done _ _ _ (named at.Else-none) (set at.Else-unset) (sym asked ∙ c.if-not-whole.false))
