@@ -10,7 +10,7 @@ use lib.Dec.{eqb, leb}
 use lib.ListN.{length, take, drop, get_or, set, length-set, length-drop, get_or-append}
 use borrow.Rule.Slice.PartMut.{mid_of, put_mid, mid_len}
 use lib.Seq.{drop_at, drop-drop, take-add, get_or-take, get_or-drop, length-take-le}
-use borrow.Author.Tests.{le-leb, lt-leb, leb-true}
+use borrow.Author.Tests.{le-leb, leb-true}
 use Rattle.reuse.specs.Limits.{max_names}
 use Rattle.reuse.proofs.Lists.{by-test, both}
 use Rattle.reuse_rows.specs.Rows.{put_at, placed}
@@ -134,12 +134,7 @@ module _ (names : List ℕ) (k : ℕ) where
   unfolding is_set lies
   set_word is h = rw (is, first_word, le-leb (place_start k + place_length) (length names) h)
 
-  -- a name whose place is past the words is not set
-  pub set-short : length names < place_start k + place_length → is_set names k ≡ false
-  unfolding is_set lies
-  set-short h = rw (lt-leb (place_start k + place_length) (length names) h) (and-false (is_name k))
-
-  -- nor is one whose first word is 0
+  -- a name whose first word is 0 is not set
   unset-word : get_or names (place_start k) 0 ≡ 0 → is_set names k ≡ false
   unfolding is_set
   unset-word e = rw (first_word, e) (simp (and-false))

@@ -1,5 +1,5 @@
 // Named moments: a session put under a name in lent words, and the session under a name returned to.
-#![tactic(auto)]
+#![tactic(auto, unfolding(crate::specs::Names::is_name, crate::specs::Names::place_start, crate::specs::Names::lies, crate::specs::Names::is_set, crate::specs::Names::name_call, crate::specs::Names::return_call))]
 
 ghost use Rattle.std.specs.Prelude.{◌≡◌, true};
 ghost use Rattle.moments.specs.Names.{is_name, place_start, is_set, new_names, name_call, not_returned, return_call};
@@ -25,11 +25,7 @@ pub struct Returned {
 pub fn is_name(name: u32) -> bool
     ensures { result ≡ is_name name }
 {
-    let low = name < 1;
-    if low {
-        return false;
-    }
-    name <= reuse::MAX_NAMES
+    (1..=reuse::MAX_NAMES).contains(&name)
 }
 
 // Where the place of a name starts.
