@@ -8,7 +8,7 @@ use mathlib.Core.List.{List, ◌++◌}
 use mathlib.Core.Bool.{true, false}
 use lib.ListN.{length, take, drop, get_or, replicate, length-replicate}
 use lib.Seq.{length-take-le}
-use borrow.Author.Tests.{le-leb, lt-leb}
+use borrow.Author.Tests.{le-leb}
 use Rattle.reuse.proofs.Sums.{get_or-blank-row}
 use Rattle.reuse_rows.specs.Rows.{put_at}
 use Rattle.summary_calls.specs.Calls.{refused}
@@ -29,11 +29,6 @@ module _ (s : Session) (names : List ℕ) (k : ℕ) where
     return-not = simp not-one
 
   module _ (is : is_name k ≡ true) where
-    -- a session that is not sound is not named
-    pub name-unsound : sound s ≡ false → name_call s names k ≡ not_named Unsound names
-    unfolding name_call
-    name-unsound e = simp (is, e)
-
     module _ (ok : sound s ≡ true) where
       -- a place past the words
       pub name-short : lies (length names) k ≡ false → name_call s names k ≡ not_named NoRoom names
@@ -119,8 +114,3 @@ module _ (lent k : ℕ) where
   pub lies_within : place_start k + place_length ≤ lent → lies lent k ≡ true
   unfolding lies
   lies_within h = le-leb (place_start k + place_length) lent h
-
-  -- and else does not
-  pub lies-past : lent < place_start k + place_length → lies lent k ≡ false
-  unfolding lies
-  lies-past h = lt-leb (place_start k + place_length) lent h

@@ -1,4 +1,5 @@
 -- The places of the names: a naming fills its own and leaves the others.
+use Rattle.std.specs.Prelude.{Some}
 use mathlib.Core.Path.{◌≡◌, refl, sym, ap, ◌∙◌}
 use Prim.Native.Nat.{ℕ, suc, ◌+◌, ◌-◌, ◌≤◌, ◌<◌}
 use native.Mathlib.Omega.{arith}
@@ -9,14 +10,13 @@ use lib.Dec.{eqb, leb}
 use lib.ListN.{length, take, drop, get_or, set, length-set, length-drop, get_or-append}
 use borrow.Rule.Slice.PartMut.{mid_of, put_mid, mid_len}
 use lib.Seq.{drop_at, drop-drop, take-add, get_or-take, get_or-drop, length-take-le}
-use borrow.Author.Tests.{le-leb, lt-leb, leb-true}
+use borrow.Author.Tests.{le-leb, leb-true}
 use Rattle.reuse.specs.Limits.{max_names}
 use Rattle.reuse.proofs.Lists.{by-test, both}
 use Rattle.reuse_rows.specs.Rows.{put_at, placed}
 use Rattle.reuse_copies.proofs.Puts.{put-cons, put-length, put-before, put-there, put-after}
 use Rattle.session.specs.Sessions.{Wide}
 use Rattle.session.specs.declared.Session.{Session}
-use Rattle.session_layout.specs.declared.Kept.{Kept}
 use Rattle.session_layout.specs.Layout.{session_length, part, kept_in, session_laid}
 use Rattle.session_layout.proofs.Laid.{placed-whole, laid-length, read_whole}
 use Rattle.session_layout.proofs.Enough.{kept-all}
@@ -134,12 +134,7 @@ module _ (names : List ℕ) (k : ℕ) where
   unfolding is_set lies
   set_word is h = rw (is, first_word, le-leb (place_start k + place_length) (length names) h)
 
-  -- a name whose place is past the words is not set
-  pub set-short : length names < place_start k + place_length → is_set names k ≡ false
-  unfolding is_set lies
-  set-short h = rw (lt-leb (place_start k + place_length) (length names) h) (and-false (is_name k))
-
-  -- nor is one whose first word is 0
+  -- a name whose first word is 0 is not set
   unset-word : get_or names (place_start k) 0 ≡ 0 → is_set names k ≡ false
   unfolding is_set
   unset-word e = rw (first_word, e) (simp (and-false))
@@ -168,18 +163,16 @@ module _ (names : List ℕ) (k : ℕ) where
       by [] = refl
       by (x ∷ l) = refl
 
-  -- the session taken from these is the one under the name
-  pub kept_under : (at : ℕ) (r : Kept) → at ≡ place_start k → place_start k + place_length ≤ length names
-      → r ≡ kept_in (take (at + place_length - (at + 1)) (drop (at + 1) names)) → r.session ≡ session_under names k
+  -- the session taken from these, and there are enough of them, is the one under the name
+  pub kept_under : (at : ℕ) → at ≡ place_start k → place_start k + place_length ≤ length names
+      → kept_in (take (at + place_length - (at + 1)) (drop (at + 1) names)) ≡ Some (session_under names k)
   unfolding session_under
-  kept_under at r e h q =
+  kept_under at e h =
       let n : at + place_length - (at + 1) ≡ session_length = omega arith in
-      let w : r ≡ kept_in (drop 1 (place_words names k)) =
-      q ∙ ap (λ (i : ℕ). kept_in (take i (drop (at + 1) names))) n
-      ∙ ap (λ (i : ℕ). kept_in (take session_length (drop (i + 1) names))) e ∙ ap kept_in (sym after_first) in
+      let w : take (at + place_length - (at + 1)) (drop (at + 1) names) ≡ drop 1 (place_words names k) = rw (n, e) (sym after_first) in
       let l : length (drop 1 (place_words names k)) ≡ session_length =
       ap length after_first ∙ length-take-le session_length (drop (place_start k + 1) names) (omega (arith, h, length-drop (place_start k + 1) names)) in
-      ap (λ (t : Kept). t.session) (w ∙ kept-all (drop 1 (place_words names k)) (omega (arith, l)))
+      rw w (kept-all (drop 1 (place_words names k)) (omega (arith, l)))
 
 -- no name is set in new words
 pub new-unset : (names : List ℕ) → names_length ≤ length names → (k : ℕ) → is_set (new_names names).buffer k ≡ false

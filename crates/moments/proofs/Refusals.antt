@@ -1,5 +1,6 @@
 -- Each refusal of a naming and of a return is given exactly under its condition, in order, and leaves what was there.
 use Rattle.std.specs.Prelude.{Result, Ok, Err}
+use Rattle.reuse.specs.Refusals.{number_of}
 use Rattle.reuse.specs.declared.refusals.Refusal.{Refusal}
 use Rattle.reuse.specs.declared.refusals.Refusal.TheVariants.{OutOfRange, NoRoom, Unsound, NameNotSet}
 use mathlib.Core.Path.{◌≡◌, refl}
@@ -16,13 +17,13 @@ use Rattle.moments.specs.Names.{is_name, lies, is_set, session_under, named_in, 
 use Rattle.moments.specs.Refusals.{moment_refusal, NamingRefusals, ReturnRefusals}
 use Rattle.moments.proofs.Places.{set-name}
 
--- three tests, each looked at after those before it, with the numbers a, b and c, and the answer where all of them hold
-abbrev pub answer_by : ℕ → ℕ → ℕ → Result Unit Refusal → Bool → Bool → Bool → Result Unit Refusal
+-- three tests, each looked at after those before it, with the refusals a, b and c, and the answer where all of them hold
+abbrev pub answer_by : Refusal → Refusal → Refusal → Result Unit Refusal → Bool → Bool → Bool → Result Unit Refusal
 answer_by a b c rest p q r = cond p (cond q (cond r rest (Err c)) (Err b)) (Err a)
 
 -- the number it gives
-pub answer-number : (a b c : ℕ) (rest : Result Unit Refusal) (p q r : Bool)
-    → moment_refusal (answer_by a b c rest p q r) ≡ cond p (cond q (cond r (moment_refusal rest) c) b) a
+pub answer-number : (a b c : Refusal) (rest : Result Unit Refusal) (p q r : Bool)
+    → moment_refusal (answer_by a b c rest p q r) ≡ cond p (cond q (cond r (moment_refusal rest) (number_of c)) (number_of b)) (number_of a)
 answer-number a b c rest true true true = refl
 answer-number a b c rest true true false = refl
 answer-number a b c rest true false r = refl
@@ -34,7 +35,7 @@ module _ (s : Session) (names : List ℕ) (k : ℕ) where
   named_by p q r = cond p (cond q (cond r (record { answer = Ok tt; names = named_in names k s }) (not_named NoRoom names)) (not_named Unsound names)) (not_named OutOfRange names)
 
   -- its answer
-  name-answer : (p q r : Bool) → (named_by p q r).answer ≡ answer_by 2 7 6 (Ok tt) p q r
+  name-answer : (p q r : Bool) → (named_by p q r).answer ≡ answer_by OutOfRange Unsound NoRoom (Ok tt) p q r
   name-answer true true true = refl
   name-answer true true false = refl
   name-answer true false r = refl
@@ -55,9 +56,9 @@ module _ (s : Session) (names : List ℕ) (k : ℕ) where
       let q : Bool = sound s in
       let r : Bool = lies (length names) k in
       record {
-        two = rw (name-answer p q r, answer-number 2 7 6 (Ok tt) p q r) (exactly-first 2 7 6 (λ e. omega arith) (λ e. omega arith) (λ e. omega arith) 0 (λ e. omega arith) p q r);
-        seven = rw (name-answer p q r, answer-number 2 7 6 (Ok tt) p q r) (exactly-second 2 7 6 (λ e. omega arith) (λ e. omega arith) (λ e. omega arith) 0 (λ e. omega arith) p q r);
-        six = rw (name-answer p q r, answer-number 2 7 6 (Ok tt) p q r) (exactly-third 2 7 6 (λ e. omega arith) (λ e. omega arith) (λ e. omega arith) 0 (λ e. omega arith) p q r);
+        two = rw (name-answer p q r, answer-number OutOfRange Unsound NoRoom (Ok tt) p q r) (exactly-first 2 7 6 (λ e. omega arith) (λ e. omega arith) (λ e. omega arith) 0 (λ e. omega arith) p q r);
+        seven = rw (name-answer p q r, answer-number OutOfRange Unsound NoRoom (Ok tt) p q r) (exactly-second 2 7 6 (λ e. omega arith) (λ e. omega arith) (λ e. omega arith) 0 (λ e. omega arith) p q r);
+        six = rw (name-answer p q r, answer-number OutOfRange Unsound NoRoom (Ok tt) p q r) (exactly-third 2 7 6 (λ e. omega arith) (λ e. omega arith) (λ e. omega arith) 0 (λ e. omega arith) p q r);
         kept = name-kept p q r;
       }
 
@@ -66,20 +67,20 @@ module _ (s : Session) (names : List ℕ) (k : ℕ) where
   returned_by p q r = cond p (cond q (cond r (record { session = session_under names k; answer = Ok tt }) (not_returned Unsound s)) (not_returned NameNotSet s)) (not_returned OutOfRange s)
 
   -- its answer
-  return-answer : (p q r : Bool) → (returned_by p q r).answer ≡ answer_by 2 11 7 (Ok tt) p q r
+  return-answer : (p q r : Bool) → (returned_by p q r).answer ≡ answer_by OutOfRange NameNotSet Unsound (Ok tt) p q r
   return-answer true true true = refl
   return-answer true true false = refl
   return-answer true false r = refl
   return-answer false q r = refl
 
   -- a refusal leaves the present session
-  return_kept : (p q r : Bool) (n : ℕ) → (returned_by p q r).answer ≡ Err n → (returned_by p q r).session ≡ s
-  return_kept true true true n e = let z : ◌≡◌ {A = ℕ} 0 1 = cc in absurd (omega arith)
+  return_kept : (p q r : Bool) (n : Refusal) → (returned_by p q r).answer ≡ Err n → (returned_by p q r).session ≡ s
+  return_kept true true true n e = absurd (cc)
   return_kept true true false n e = refl
   return_kept true false r n e = refl
   return_kept false q r n e = refl
 
-  pub returned-same : (n : ℕ) → (return_call s names k).answer ≡ Err n → (return_call s names k).session ≡ s
+  pub returned-same : (n : Refusal) → (return_call s names k).answer ≡ Err n → (return_call s names k).session ≡ s
   unfolding return_call
   returned-same = return_kept (is_name k) (is_set names k) (sound (session_under names k))
 
@@ -92,9 +93,9 @@ module _ (s : Session) (names : List ℕ) (k : ℕ) where
       let r : Bool = sound (session_under names k) in
       let third = exactly-third 2 11 7 (λ e. omega arith) (λ e. omega arith) (λ e. omega arith) 0 (λ e. omega arith) p q r in
       record {
-        two = rw (return-answer p q r, answer-number 2 11 7 (Ok tt) p q r) (exactly-first 2 11 7 (λ e. omega arith) (λ e. omega arith) (λ e. omega arith) 0 (λ e. omega arith) p q r);
-        eleven = rw (return-answer p q r, answer-number 2 11 7 (Ok tt) p q r) (exactly-second 2 11 7 (λ e. omega arith) (λ e. omega arith) (λ e. omega arith) 0 (λ e. omega arith) p q r);
-        seven = rw (return-answer p q r, answer-number 2 11 7 (Ok tt) p q r) (λ e. let h = third.0 e in (h.1, h.2), λ e. third.1 (set-name names k e.0, e.0, e.1));
+        two = rw (return-answer p q r, answer-number OutOfRange NameNotSet Unsound (Ok tt) p q r) (exactly-first 2 11 7 (λ e. omega arith) (λ e. omega arith) (λ e. omega arith) 0 (λ e. omega arith) p q r);
+        eleven = rw (return-answer p q r, answer-number OutOfRange NameNotSet Unsound (Ok tt) p q r) (exactly-second 2 11 7 (λ e. omega arith) (λ e. omega arith) (λ e. omega arith) 0 (λ e. omega arith) p q r);
+        seven = rw (return-answer p q r, answer-number OutOfRange NameNotSet Unsound (Ok tt) p q r) (λ e. let h = third.0 e in (h.1, h.2), λ e. third.1 (set-name names k e.0, e.0, e.1));
         kept = by (returned_by p q r).answer refl;
       }
     where

@@ -1,4 +1,5 @@
 -- When a naming and a return are refused: each number exactly under its condition, looked at after those before it.
+use Rattle.reuse.specs.Refusals.{number_of}
 use Rattle.std.specs.Prelude.{ℕ, ◌≡◌, ◌↔◌, ◌≢◌, true, false, List, length, Result, Ok, Err}
 use Rattle.reuse.specs.declared.refusals.Refusal.{Refusal}
 use Rattle.session.specs.declared.Session.{Session}

@@ -1,25 +1,18 @@
 // Named moments: a session put under a name in lent words, and the session under a name returned to.
-#![tactic(auto)]
+#![tactic(auto, unfolding(crate::specs::Names::is_name, crate::specs::Names::place_start, crate::specs::Names::lies, crate::specs::Names::is_set, crate::specs::Names::name_call, crate::specs::Names::return_call))]
 
 ghost use Rattle.std.specs.Prelude.{◌≡◌, true};
-ghost use Rattle.moments.specs.Names.{is_name, place_start, is_set, new_names, name_call, return_call};
+ghost use Rattle.moments.specs.Names.{is_name, place_start, is_set, new_names, name_call, not_returned, return_call};
 
+use reuse::Refusal;
 use session::Session;
 use session_layout::SESSION;
-use summary_calls::Written;
 
 // The words of one place: whether its name is set, then a session's words.
 const PLACE: usize = 1 + SESSION;
 
 // The words of all places.
 const NAMES: usize = reuse::MAX_NAMES as usize * PLACE;
-
-// What a naming or a return answers: done, or the refusal's number.
-#[derive(Clone, Copy)]
-pub enum MomentAnswer {
-    Done,
-    Refused(u32),
-}
 
 // The present session after a return, beside the answer.
 #[derive(Drop)]
@@ -32,11 +25,7 @@ pub struct Returned {
 pub fn is_name(name: u32) -> bool
     ensures { result ≡ is_name name }
 {
-    let low = name < 1;
-    if low {
-        return false;
-    }
-    name <= reuse::MAX_NAMES
+    (1..=reuse::MAX_NAMES).contains(&name)
 }
 
 // Where the place of a name starts.
@@ -96,6 +85,16 @@ pub fn name_session(s: Session, names: &mut [u32], name: u32) -> Result<(), Refu
     Ok(())
 }
 
+// The present session stays, beside the refusal.
+fn stays(s: Session, refusal: Refusal) -> Returned
+    ensures { result ≡ not_returned refusal s }
+{
+    Returned {
+        session: s,
+        answer: Err(refusal),
+    }
+}
+
 // The session under the name becomes the present one.
 pub fn return_to(s: Session, names: &[u32], name: u32) -> Returned
     ensures { result ≡ return_call s names.now name }
@@ -105,28 +104,21 @@ pub fn return_to(s: Session, names: &[u32], name: u32) -> Returned
     let none = !known;
     let unset = !set;
     if none {
-        return Returned {
-            session: s,
-            answer: Err(Refusal::OutOfRange),
-        };
+        return stays(s, Refusal::OutOfRange);
     }
     if unset {
-        return Returned {
-            session: s,
-            answer: Err(Refusal::NameNotSet),
-        };
+        return stays(s, Refusal::NameNotSet);
     }
     let start = place_start(name);
     let from = start + 1;
     let end = start + PLACE;
     let kept = session_layout::session_in(&names[from..end]);
-    let remembered = kept.session;
+    let Some(remembered) = kept else {
+        return stays(s, Refusal::Unsound);
+    };
     let whole = remembered.sound();
     if !whole {
-        return Returned {
-            session: s,
-            answer: Err(Refusal::Unsound),
-        };
+        return stays(s, Refusal::Unsound);
     }
     Returned {
         session: remembered,

@@ -5,7 +5,7 @@ use Rattle.reuse.specs.declared.refusals.Refusal.TheVariants.{OutOfRange, NoRoom
 use mathlib.Core.Path.{◌≡◌, refl, sym, ap, ◌∙◌}
 use Prim.Native.Nat.{ℕ, ◌≤◌, ◌<◌}
 use native.Mathlib.Omega.{arith}
-use mathlib.Core.Bool.{Bool, true, false, cond, true≢false, false≢true}
+use mathlib.Core.Bool.{Bool, true, false, cond}
 use mathlib.Core.List.{List}
 use lib.Dec.{leb}
 use lib.ListN.{length}
@@ -19,7 +19,7 @@ use Rattle.moments.specs.declared.Returned.{Returned}
 use Rattle.moments.specs.Names.{is_name, is_set, session_under, not_named, name_call, return_call}
 use Rattle.moments.proofs.Calls.{name-not}
 use Rattle.moments.proofs.Refusals.{returned_by, returned-same}
-use Rattle.moments_words.specs.Calls.{name_in, Came, not_came, return_in, is_done}
+use Rattle.moments_words.specs.Calls.{name_in, Came, not_came, return_in}
 
 module _ (w names : List ℕ) (k : ℕ) where
   -- a number that is no name
@@ -28,11 +28,6 @@ module _ (w names : List ℕ) (k : ℕ) where
   in-not e = simp e
 
   module _ (is : is_name k ≡ true) where
-    -- no session to name
-    pub in-short : length w < session_length → name_in w names k ≡ not_named Unsound names
-    unfolding name_in
-    in-short h = simp (is, lt-leb session_length (length w) h)
-
     -- the session in the words is named
     pub in_all : session_length ≤ length w → name_in w names k ≡ name_call (session_in w) names k
     unfolding name_in
@@ -62,33 +57,17 @@ module _ (w names : List ℕ) (k : ℕ) (s : Session) (r : Returned) (e : r ≡ 
   from-value = rw e (came w names k s)
 
   -- a refusal leaves the words
-  pub came_refused : is_done r.answer ≡ false → return_in w names k ≡ record { answer = r.answer; words = w }
-  came_refused h = from-value ∙ by r.answer h
-    where
-      by : (a : Result Unit Refusal) → is_done a ≡ false → came_by a r.session w ≡ record { answer = a; words = w }
-      by (Ok tt) q = absurd (true≢false q)
-      by (Err n) q = refl
+  pub came_refused : (n : Refusal) → r.answer ≡ Err n → return_in w names k ≡ not_came n w
+  came_refused n h = let t = from-value in simp h at t
 
-  module _ (h : is_done r.answer ≡ true) where
+  module _ (h : r.answer ≡ Ok tt) where
     -- no room for the session
     pub came-short : length w < session_length → return_in w names k ≡ not_came NoRoom w
-    came-short l = from-value ∙ by r.answer h
-      where
-        by : (a : Result Unit Refusal) → is_done a ≡ true → came_by a r.session w ≡ not_came NoRoom w
-        by (Ok tt) q = simp (lt-leb session_length (length w) l)
-        by (Err n) q = absurd (false≢true q)
+    came-short l = let t = from-value in simp (h, lt-leb session_length (length w) l) at t
 
     -- the session's words are put
-    pub came-all : session_length ≤ length w → return_in w names k ≡ record { answer = r.answer; words = put_at w 0 (session_laid r.session) }
-    came-all l = from-value ∙ by r.answer h
-      where
-        by : (a : Result Unit Refusal) → is_done a ≡ true → came_by a r.session w ≡ record { answer = a; words = put_at w 0 (session_laid r.session) }
-        by (Ok tt) q = simp (le-leb session_length (length w) l)
-        by (Err n) q = absurd (false≢true q)
-
--- the answer of a return and the words after it, apart
-pub apart : (v w : Came) → v ≡ w → (w.answer ≡ v.answer) × (w.words ≡ v.words)
-apart v w e = (sym (ap (λ (n : Came). n.answer) e), sym (ap (λ (n : Came). n.words) e))
+    pub came-all : session_length ≤ length w → return_in w names k ≡ record { answer = Ok tt; words = put_at w 0 (session_laid r.session) }
+    came-all l = let t = from-value in simp (h, le-leb session_length (length w) l) at t
 
 -- a session laid into words
 module _ (s : Session) (wide : Wide s) (w : List ℕ) (l : session_length ≤ length w) (names : List ℕ) (k : ℕ) where

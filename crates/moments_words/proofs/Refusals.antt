@@ -42,7 +42,7 @@ module _ (w names : List ℕ) (k : ℕ) where
   named p e q r = cond p (cond e (named_by (session_in w) names k p q r) (not_named Unsound names)) (not_named OutOfRange names)
 
   -- its answer
-  name-answer : (p e q r : Bool) → (named p e q r).answer ≡ answer_by 2 7 6 (Ok tt) p (e && q) r
+  name-answer : (p e q r : Bool) → (named p e q r).answer ≡ answer_by OutOfRange Unsound NoRoom (Ok tt) p (e && q) r
   name-answer true true true true = refl
   name-answer true true true false = refl
   name-answer true true false r = refl
@@ -66,9 +66,9 @@ module _ (w names : List ℕ) (k : ℕ) where
       let q : Bool = sound (session_in w) in
       let r : Bool = lies (length names) k in
       record {
-        two = rw (name-answer p e q r, answer-number 2 7 6 (Ok tt) p (e && q) r) (exactly-first 2 7 6 (λ e. omega arith) (λ e. omega arith) (λ e. omega arith) 0 (λ n. omega arith) p (e && q) r);
-        seven = rw (name-answer p e q r, answer-number 2 7 6 (Ok tt) p (e && q) r) (exactly-second 2 7 6 (λ e. omega arith) (λ e. omega arith) (λ e. omega arith) 0 (λ n. omega arith) p (e && q) r);
-        six = rw (name-answer p e q r, answer-number 2 7 6 (Ok tt) p (e && q) r) (exactly-third 2 7 6 (λ e. omega arith) (λ e. omega arith) (λ e. omega arith) 0 (λ n. omega arith) p (e && q) r);
+        two = rw (name-answer p e q r, answer-number OutOfRange Unsound NoRoom (Ok tt) p (e && q) r) (exactly-first 2 7 6 (λ e. omega arith) (λ e. omega arith) (λ e. omega arith) 0 (λ n. omega arith) p (e && q) r);
+        seven = rw (name-answer p e q r, answer-number OutOfRange Unsound NoRoom (Ok tt) p (e && q) r) (exactly-second 2 7 6 (λ e. omega arith) (λ e. omega arith) (λ e. omega arith) 0 (λ n. omega arith) p (e && q) r);
+        six = rw (name-answer p e q r, answer-number OutOfRange Unsound NoRoom (Ok tt) p (e && q) r) (exactly-third 2 7 6 (λ e. omega arith) (λ e. omega arith) (λ e. omega arith) 0 (λ n. omega arith) p (e && q) r);
         kept = name-kept p e q r;
       }
 
@@ -82,7 +82,7 @@ module _ (w names : List ℕ) (k : ℕ) where
       (not_came OutOfRange w)
 
   -- its answer
-  back-answer : (p q r e : Bool) → (back p q r e).answer ≡ answer_by 2 11 7 (roomed e) p q r
+  back-answer : (p q r e : Bool) → (back p q r e).answer ≡ answer_by OutOfRange NameNotSet Unsound (roomed e) p q r
   back-answer true true true true = refl
   back-answer true true true false = refl
   back-answer true true false e = refl
@@ -108,10 +108,10 @@ module _ (w names : List ℕ) (k : ℕ) where
       let seven = exactly-third 2 11 7 (λ e. omega arith) (λ e. omega arith) (λ e. omega arith) (moment_refusal (roomed e)) (roomed-other e 7 (λ n. omega arith) (λ n. omega arith)) p q r in
       let six = exactly-rest 2 11 7 (λ e. omega arith) (λ e. omega arith) (λ e. omega arith) (moment_refusal (roomed e)) 6 (λ n. omega arith) (λ n. omega arith) (λ n. omega arith) p q r in
       record {
-        two = rw (back-answer p q r e, answer-number 2 11 7 (roomed e) p q r) (exactly-first 2 11 7 (λ e. omega arith) (λ e. omega arith) (λ e. omega arith) (moment_refusal (roomed e)) (roomed-other e 2 (λ n. omega arith) (λ n. omega arith)) p q r);
-        eleven = rw (back-answer p q r e, answer-number 2 11 7 (roomed e) p q r) (exactly-second 2 11 7 (λ e. omega arith) (λ e. omega arith) (λ e. omega arith) (moment_refusal (roomed e)) (roomed-other e 11 (λ n. omega arith) (λ n. omega arith)) p q r);
-        seven = rw (back-answer p q r e, answer-number 2 11 7 (roomed e) p q r) (λ n. let h = seven.0 n in (h.1, h.2), λ h. seven.1 (set-name names k h.0, h.0, h.1));
-        six = rw (back-answer p q r e, answer-number 2 11 7 (roomed e) p q r) (
+        two = rw (back-answer p q r e, answer-number OutOfRange NameNotSet Unsound (roomed e) p q r) (exactly-first 2 11 7 (λ e. omega arith) (λ e. omega arith) (λ e. omega arith) (moment_refusal (roomed e)) (roomed-other e 2 (λ n. omega arith) (λ n. omega arith)) p q r);
+        eleven = rw (back-answer p q r e, answer-number OutOfRange NameNotSet Unsound (roomed e) p q r) (exactly-second 2 11 7 (λ e. omega arith) (λ e. omega arith) (λ e. omega arith) (moment_refusal (roomed e)) (roomed-other e 11 (λ n. omega arith) (λ n. omega arith)) p q r);
+        seven = rw (back-answer p q r e, answer-number OutOfRange NameNotSet Unsound (roomed e) p q r) (λ n. let h = seven.0 n in (h.1, h.2), λ h. seven.1 (set-name names k h.0, h.0, h.1));
+        six = rw (back-answer p q r e, answer-number OutOfRange NameNotSet Unsound (roomed e) p q r) (
           λ n. let h = six.0 n in (h.1, h.2, leb-false session_length (length w) ((roomed-six e).0 h.3)),
           λ h. six.1 (set-name names k h.0, h.0, h.1, (roomed-six e).1 (lt-leb session_length (length w) h.2)),
         );

@@ -1,5 +1,5 @@
 -- What the calls on named moments answer and leave where the present session stands in lent words.
-use Rattle.std.specs.Prelude.{ℕ, Bool, true, false, cond, List, leb, length, Result, Ok, Err}
+use Rattle.std.specs.Prelude.{ℕ, cond, List, leb, length, Result, Ok, Err}
 use Rattle.reuse.specs.declared.refusals.Refusal.{Refusal}
 use Rattle.reuse.specs.declared.refusals.Refusal.TheVariants.{OutOfRange, NoRoom, Unsound, NameNotSet}
 use Rattle.reuse_rows.specs.Rows.{put_at}
@@ -38,8 +38,3 @@ return_in w names k =
     (not_came Unsound w))
     (not_came NameNotSet w))
     (not_came OutOfRange w)
-
--- a call was done
-abbrev pub is_done : Result Unit Refusal → Bool
-is_done (Ok tt) = true
-is_done (Err n) = false
