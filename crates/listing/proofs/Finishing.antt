@@ -1,4 +1,8 @@
 -- What the end of the text gives: one law for each way that the code returns.
+use Rattle.std.specs.Prelude.{Result, Ok, Err}
+use Rattle.reuse.specs.declared.refusals.Refusal.{Refusal}
+use Rattle.reuse.specs.declared.refusals.Refusal.TheVariants.{FaultyLine, Unsound}
+use Rattle.reuse.specs.Refusals.{number_of, refusal_with}
 use mathlib.Core.Path.{◌≡◌, refl, sym, ap, subst, ◌∙◌}
 use Prim.Native.Nat.{ℕ, zero, suc, ◌≤◌, ◌<◌}
 use native.Mathlib.Omega.{arith}
@@ -28,46 +32,35 @@ use Rattle.listing_texts.specs.Tallies.{Tally, misses_by}
 use Rattle.listing.specs.declared.Lister.{Lister}
 use Rattle.listing_tally.specs.declared.Phase.{Phase}
 use Rattle.listing_tally.specs.declared.Phase.TheVariants.{Empty, Inside, Whole, Stopped}
-use Rattle.listing_texts.specs.declared.Verdict.TheVariants.{Listed, Refused}
 use Rattle.listing.proofs.Soundness.{state-sound, state-unsound}
 use Rattle.listing.proofs.Kept.{Kept}
 use Rattle.listing.proofs.Listers.{Wide, sound-kept}
 
 -- the end comes too early where nothing whole is read
-verdict-early : (s : Taken) → taken_whole s ≡ none → (held : List ℕ) → verdict_at (at 0 held s) ≡ Refused 1
+verdict-early : (s : Taken) → taken_whole s ≡ none → (held : List ℕ) → verdict_at (at 0 held s) ≡ Err FaultyLine
 unfolding verdict_at finish_by
 verdict-early s e [] = rw e
 verdict-early s e (x ∷ held) = refl
 
 -- so it does inside a line
-verdict-inside : (s : Taken) (k : ℕ) (line : List ℕ) → 0 < k → k ≤ length line → verdict_at (at 0 (take k line) s) ≡ Refused 1
+verdict-inside : (s : Taken) (k : ℕ) (line : List ℕ) → 0 < k → k ≤ length line → verdict_at (at 0 (take k line) s) ≡ Err FaultyLine
 unfolding verdict_at finish_by
 verdict-inside s zero line h g = absurd (omega arith)
 verdict-inside s (suc k) [] h g = absurd (omega arith)
 verdict-inside s (suc k) (x ∷ line) h g = refl
 
 -- a whole trace is listed
-verdict-tally : (t : Tally) → verdict_at (at 0 [] (whole t)) ≡ Listed
+verdict-tally : (t : Tally) → verdict_at (at 0 [] (whole t)) ≡ Ok tt
 unfolding verdict_at finish_by
 verdict-tally t = refl
 
 -- a refused text is refused with its number
-verdict-stop : (n : ℕ) → verdict_at (stopped 0 n) ≡ Refused n
+verdict-stop : (n : ℕ) → verdict_at (stopped 0 n) ≡ Err (refusal_with n)
 unfolding verdict_at finish_by
 verdict-stop n = refl
 
--- an answer that is refused prints its refusal
-refused-prints : (r : Read Tally) (n : ℕ) → verdict_by r ≡ Refused n → printed_by r ≡ refused_text n
-refused-prints (got t) n e = never (cc)
-refused-prints (refused k m) n e = let q : m ≡ n = cc in rw q
-
--- a text that is refused at its end prints its refusal
-pub prints-refused : (s : State) (n : ℕ) → verdict_at s ≡ Refused n → printed_at s ≡ refused_text n
-unfolding printed_at verdict_at
-prints-refused s n e = refused-prints (finish_by taken_whole s) n e
-
 -- one that is listed has ended its last line, and its trace is whole
-whole-at : (a : Answer Taken) (held : List ℕ) → verdict_at (state_by a held) ≡ Listed → (t : Tally) × (a ≡ to (whole t)) × (held ≡ [])
+whole-at : (a : Answer Taken) (held : List ℕ) → verdict_at (state_by a held) ≡ Ok tt → (t : Tally) × (a ≡ to (whole t)) × (held ≡ [])
 unfolding verdict_at finish_by
 whole-at (to empty) [] e = never (cc)
 whole-at (to (inside t)) [] e = never (cc)
@@ -98,12 +91,12 @@ whole-phase (Stopped n) s t e = never (cc)
 
 module _ (l : Lister) where
   -- a lister that is not sound
-  pub verdict-unsound : sound_lister l ≡ false → Refused 7 ≡ verdict_at (state_of l)
+  pub verdict-unsound : sound_lister l ≡ false → Err Unsound ≡ verdict_at (state_of l)
   verdict-unsound h = sym (ap verdict_at (state-unsound l h) ∙ verdict-stop 7)
 
   -- one that is listed is sound
-  pub listed-sound : verdict_at (state_of l) ≡ Listed → sound_lister l ≡ true
-  listed-sound e = by-test (sound_lister l) (λ s. s) (λ s. let q : Refused 7 ≡ Listed = verdict-unsound s ∙ e in never (cc))
+  pub listed-sound : verdict_at (state_of l) ≡ Ok tt → sound_lister l ≡ true
+  listed-sound e = by-test (sound_lister l) (λ s. s) (λ s. let q : ◌≡◌ {A = Result Unit Refusal} (Err Unsound) (Ok tt) = verdict-unsound s ∙ e in never (cc))
 
   module _ (h : sound_lister l ≡ true) where
     -- a sound one, by its phase
@@ -111,30 +104,30 @@ module _ (l : Lister) where
     by-phase p e = state-sound l h ∙ ap (λ (q : Phase). state_in q l.reads l.extents l.stack l.counts (take l.held l.line)) e
 
     -- before the first line
-    pub verdict-empty : l.phase ≡ Empty → Refused 1 ≡ verdict_at (state_of l)
+    pub verdict-empty : l.phase ≡ Empty → Err FaultyLine ≡ verdict_at (state_of l)
     verdict-empty e = sym (ap verdict_at (by-phase Empty e) ∙ verdict-early empty refl (take l.held l.line))
 
     -- inside the trace
-    pub verdict-reads : l.phase ≡ Inside → Refused 1 ≡ verdict_at (state_of l)
+    pub verdict-reads : l.phase ≡ Inside → Err FaultyLine ≡ verdict_at (state_of l)
     verdict-reads e = sym (ap verdict_at (by-phase Inside e) ∙ verdict-early (inside (tally_in l.reads l.extents l.stack l.counts)) refl (take l.held l.line))
 
     -- a refused text
-    pub verdict-stopped : (n : ℕ) → l.phase ≡ Stopped n → Refused n ≡ verdict_at (state_of l)
+    pub verdict-stopped : (n : ℕ) → l.phase ≡ Stopped n → Err (refusal_with n) ≡ verdict_at (state_of l)
     verdict-stopped n e = sym (ap verdict_at (by-phase (Stopped n) e) ∙ verdict-stop n)
 
     -- after the trace, inside a line
-    pub verdict-held : l.phase ≡ Whole → 0 < l.held → l.held ≤ length l.line → Refused 1 ≡ verdict_at (state_of l)
+    pub verdict-held : l.phase ≡ Whole → 0 < l.held → l.held ≤ length l.line → Err FaultyLine ≡ verdict_at (state_of l)
     verdict-held e a b = sym (ap verdict_at (by-phase Whole e) ∙ verdict-inside (whole (tally_in l.reads l.extents l.stack l.counts)) l.held l.line a b)
 
     -- after the trace, at the end of its last line
-    pub verdict-listed : l.phase ≡ Whole → l.held ≡ 0 → Listed ≡ verdict_at (state_of l)
+    pub verdict-listed : l.phase ≡ Whole → l.held ≡ 0 → Ok tt ≡ verdict_at (state_of l)
     verdict-listed e a =
         sym (ap verdict_at (by-phase Whole e)
         ∙ ap (λ (k : ℕ). verdict_at (at 0 (take k l.line) (whole (tally_in l.reads l.extents l.stack l.counts)))) a
         ∙ verdict-tally (tally_in l.reads l.extents l.stack l.counts))
 
     -- a listed one prints the listing of its tally
-    pub prints-listed : verdict_at (state_of l) ≡ Listed
+    pub prints-listed : verdict_at (state_of l) ≡ Ok tt
         → listed l.reads (length (take l.extents l.counts)) (misses_by (take l.extents l.counts)) ≡ printed_at (state_of l)
     prints-listed e =
         let t = tally_in l.reads l.extents l.stack l.counts in
@@ -151,6 +144,33 @@ number_small n h =
     (λ e. by-test (eqb n 2) (λ f. omega (arith, eqb-true n 2 f))
     (λ f. by-test (eqb n 8) (λ g. omega (arith, eqb-true n 8 g))
     (λ g. let z : eqb n 9 ≡ true = (simp (e, f, g) at h) in omega (arith, eqb-true n 9 z))))
+
+-- each is the number of its refusal
+text-number : (n : ℕ) → refuses_text n ≡ true → number_of (refusal_with n) ≡ n
+unfolding refuses_text
+text-number n h =
+    by-test (eqb n 1) (λ e. rw (eqb-true n 1 e))
+    (λ e. by-test (eqb n 2) (λ f. rw (eqb-true n 2 f))
+    (λ f. by-test (eqb n 8) (λ g. rw (eqb-true n 8 g))
+    (λ g. let z : eqb n 9 ≡ true = (simp (e, f, g) at h) in rw (eqb-true n 9 z))))
+
+-- a text that is kept and refused at its end prints its refusal
+kept-prints : (s : State) → Kept s → (r : Refusal) → verdict_at s ≡ Err r → printed_at s ≡ refused_text (number_of r)
+unfolding printed_at verdict_at finish_by
+kept-prints (at k [] empty) g r e = let q : FaultyLine ≡ r = cc in rw (← q) refl
+kept-prints (at k [] (inside t)) g r e = let q : FaultyLine ≡ r = cc in rw (← q) refl
+kept-prints (at k [] (whole t)) g r e = never (cc)
+kept-prints (at k (x ∷ held) s) g r e = let q : FaultyLine ≡ r = cc in rw (← q) refl
+kept-prints (stopped k n) g r e = let q : refusal_with n ≡ r = cc in ap refused_text (sym (text-number n g) ∙ ap number_of q)
+
+-- so does every lister
+pub prints-refused : (l : Lister) → Wide l → (r : Refusal) → verdict_at (state_of l) ≡ Err r → printed_at (state_of l) ≡ refused_text (number_of r)
+unfolding printed_at finish_by
+prints-refused l w r v =
+    by-test (sound_lister l) (λ e. kept-prints (state_of l) (sound-kept l e w) r v)
+    (λ e. let q : ◌≡◌ {A = Result Unit Refusal} (Err Unsound) (Err r) = verdict-unsound l e ∙ v in
+    let is : Unsound ≡ r = cc in
+    subst (λ (s : State). printed_at s ≡ refused_text (number_of r)) (sym (state-unsound l e)) (ap (λ (why : Refusal). refused_text (number_of why)) is))
 
 -- what a text that is kept prints at its end fits a page
 kept-length : (s : State) → Kept s → length (printed_at s) ≤ page_bytes

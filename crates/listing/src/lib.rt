@@ -12,7 +12,7 @@ ghost use Rattle.listing.specs.Listers.{sound_lister, state_of, lister_with, lis
 pub use listing_pages::{PAGE_BYTES, Page};
 pub use listing_tally::Phase;
 use listing_tally::{LONGEST, Progress};
-pub use listing_texts::Verdict;
+use reuse::Refusal;
 use listing_turns::Turn;
 
 // A log text taken so far: what is held of a line that has not ended, how far the text is, and the tally of its reads.
@@ -152,23 +152,22 @@ impl Lister {
     }
 
     // Whether the text taken is listed or refused, if it ends here.
-    pub fn verdict(self) -> Verdict
+    pub fn verdict(self) -> Result<(), Refusal>
         ensures { result ≡ verdict_at (state_of self) }
     {
         if !self.sound() {
-            return Verdict::Refused(7);
+            return Err(Refusal::Unsound);
         }
         let phase = self.phase;
         match phase {
-            Phase::Empty => Verdict::Refused(1),
-            Phase::Inside => Verdict::Refused(1),
-            Phase::Stopped(n) => Verdict::Refused(n),
+            Phase::Empty | Phase::Inside => Err(Refusal::FaultyLine),
+            Phase::Stopped(n) => Err(Refusal::try_from(n).unwrap_or(Refusal::Unsound)),
             Phase::Whole => {
                 let more = 0 < self.held;
                 if more {
-                    return Verdict::Refused(1);
+                    return Err(Refusal::FaultyLine);
                 }
-                Verdict::Listed
+                Ok(())
             }
         }
     }
@@ -177,10 +176,9 @@ impl Lister {
     pub fn finish(self) -> Page
         ensures { result ≡ page_of (printed_at (state_of self)) }
     {
-        let verdict = self.verdict();
-        match verdict {
-            Verdict::Refused(n) => listing_pages::refused_page(n),
-            Verdict::Listed => {
+        match self.verdict() {
+            Err(refusal) => listing_pages::refused_page(u32::from(refusal)),
+            Ok(()) => {
                 let v = self.extents;
                 let counts = self.counts;
                 listing_pages::listing_page(self.reads, &counts[..v])

@@ -1,12 +1,12 @@
 -- A log text taken in pieces by tallies: what each line does, and what the end gives.
-use Rattle.std.specs.Prelude.{ℕ, List, length}
+use Rattle.std.specs.Prelude.{ℕ, List, length, Result, Ok, Err}
+use Rattle.reuse.specs.declared.refusals.Refusal.{Refusal}
+use Rattle.reuse.specs.Refusals.{refusal_with}
 use Rattle.std.proofs.Math.Option.{Option, none, some}
 use Rattle.texts.specs.Lines.{Answer, to, no, Fed, at, stopped, Read, got, refused, feed_by, finish_by}
 use Rattle.texts.specs.Logs.{Row, Logged, empty, inside, whole, row_by, head_by, step_by, log_room}
 use Rattle.listing_texts.specs.Tallies.{Tally, no_reads, tallied, over_tally, misses_by}
 use Rattle.listing_texts.specs.Listings.{listed, refused_text}
-use Rattle.listing_texts.specs.declared.Verdict.{Verdict}
-use Rattle.listing_texts.specs.declared.Verdict.TheVariants.{Listed, Refused}
 
 -- nothing read yet; the tally of the reads so far; that of the whole trace
 abbrev pub Taken : Type 0
@@ -58,10 +58,10 @@ unfoldable pub printed_at : State → List ℕ
 printed_at s = printed_by (finish_by taken_whole s)
 
 -- by an answer: listed, or refused with its number
-abbrev pub verdict_by : {T : Type 0} → Read T → Verdict
-verdict_by (got t) = Listed
-verdict_by (refused line n) = Refused n
+abbrev pub verdict_by : {T : Type 0} → Read T → Result Unit Refusal
+verdict_by (got t) = Ok tt
+verdict_by (refused line n) = Err (refusal_with n)
 
 -- whether the end of the text gives a listing or a refusal
-unfoldable pub verdict_at : State → Verdict
+unfoldable pub verdict_at : State → Result Unit Refusal
 verdict_at s = verdict_by (finish_by taken_whole s)

@@ -1,9 +1,2 @@
-// The listing of a log text: its definitions and laws, and the verdict on a text.
+// The listing of a log text: its definitions and laws, no code.
 #![tactic(auto)]
-
-// What the end of the text would give: a listing, or the refusal's number.
-#[derive(Drop)]
-pub enum Verdict {
-    Listed,
-    Refused(u32),
-}

@@ -1,5 +1,8 @@
 -- `listing::Lister::verdict` meets its contract.
-use mathlib.Core.Path.{◌≡◌, sym, ◌∙◌}
+use Rattle.std.specs.Prelude.{Err}
+use Rattle.reuse.proofs.Numbers.{named}
+use mathlib.Core.Path.{◌≡◌, sym, ap, ◌∙◌}
+use mathlib.Core.Logic.{either}
 use native.Mathlib.Omega.{arith}
 use mathlib.Core.Bool.{true}
 use lib.ListN.{length}
@@ -27,16 +30,17 @@ returns-then-more c =
     let l = c.args.self in
     verdict-held l (is-sound (goal.at.returns-then-more c).Else-not-sound) c.in-Whole.is c.if-more.true (omega (arith, sound-fits l (is-sound (goal.at.returns-then-more c).Else-not-sound), line-wide (goal.at.returns-then-more c).Start))
 
-pub returns-in-Empty : goal.returns-in-Empty
-returns-in-Empty c = verdict-empty c.args.self (is-sound (goal.at.returns-in-Empty c).Else-not-sound) c.in-Empty.is
-
-pub returns-in-Inside : goal.returns-in-Inside
-returns-in-Inside c = verdict-reads c.args.self (is-sound (goal.at.returns-in-Inside c).Else-not-sound) c.in-Inside.is
 
 pub returns-in-Stopped : goal.returns-in-Stopped
 returns-in-Stopped c =
-    verdict-stopped c.args.self (is-sound (goal.at.returns-in-Stopped c).Else-not-sound) c.in-Stopped.n c.in-Stopped.is
+    ap Err (c.unwrap_or.ensures ∙ named c.in-Stopped.n _ c.try_from.ensures)
+    ∙ verdict-stopped c.args.self (is-sound (goal.at.returns-in-Stopped c).Else-not-sound) c.in-Stopped.n c.in-Stopped.is
 
 pub returns-else-more : goal.returns-else-more
 returns-else-more c =
     verdict-listed c.args.self (is-sound (goal.at.returns-else-more c).Else-not-sound) c.in-Whole.is (omega (arith, c.if-more.false))
+
+pub returns-in-Empty : goal.returns-in-Empty
+returns-in-Empty c =
+    let ok = is-sound (goal.at.returns-in-Empty c).Else-not-sound in
+    either c.in-Empty.is (λ e. verdict-empty c.args.self ok e) (λ e. verdict-reads c.args.self ok e)
