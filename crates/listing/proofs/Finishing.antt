@@ -5,6 +5,7 @@ use Rattle.reuse.specs.declared.refusals.Refusal.TheVariants.{FaultyLine, Unsoun
 use Rattle.reuse.specs.Refusals.{number_of, refusal_with}
 use mathlib.Core.Path.{◌≡◌, refl, sym, ap, subst, ◌∙◌}
 use Prim.Native.Nat.{ℕ, zero, suc, ◌≤◌, ◌<◌}
+use mathlib.Core.Logic.{◌⊎◌, inl, inr}
 use native.Mathlib.Omega.{arith}
 use mathlib.Core.List.{List, [], ◌∷◌}
 use mathlib.Core.Bool.{true, false}
@@ -104,12 +105,17 @@ module _ (l : Lister) where
     by-phase p e = state-sound l h ∙ ap (λ (q : Phase). state_in q l.reads l.extents l.stack l.counts (take l.held l.line)) e
 
     -- before the first line
-    pub verdict-empty : l.phase ≡ Empty → Err FaultyLine ≡ verdict_at (state_of l)
+    verdict-empty : l.phase ≡ Empty → Err FaultyLine ≡ verdict_at (state_of l)
     verdict-empty e = sym (ap verdict_at (by-phase Empty e) ∙ verdict-early empty refl (take l.held l.line))
 
     -- inside the trace
-    pub verdict-reads : l.phase ≡ Inside → Err FaultyLine ≡ verdict_at (state_of l)
+    verdict-reads : l.phase ≡ Inside → Err FaultyLine ≡ verdict_at (state_of l)
     verdict-reads e = sym (ap verdict_at (by-phase Inside e) ∙ verdict-early (inside (tally_in l.reads l.extents l.stack l.counts)) refl (take l.held l.line))
+
+    -- before the trace has ended
+    pub verdict-open : (l.phase ≡ Empty) ⊎ (l.phase ≡ Inside) → Err FaultyLine ≡ verdict_at (state_of l)
+    verdict-open (inl e) = verdict-empty e
+    verdict-open (inr e) = verdict-reads e
 
     -- a refused text
     pub verdict-stopped : (n : ℕ) → l.phase ≡ Stopped n → Err (refusal_with n) ≡ verdict_at (state_of l)

@@ -29,14 +29,13 @@ pub fn evaluate(
     requires { Ready s.now at under log.now from left × Roomy s.now at under log.now work.old out.old left }
     ensures { Evaluates s.now at under log.now from left work.old out.old result work.new out.new }
 {
-    let mut done = Done {
-        next: at,
-        closes: 0,
-        taken: from,
-        words: 0,
-    };
     let Some(l) = plan_lines::line_at(s, at, under) else {
-        return done;
+        return Done {
+            next: at,
+            closes: 0,
+            taken: from,
+            words: 0,
+        };
     };
     match l {
         Line::Seg {
@@ -44,23 +43,37 @@ pub fn evaluate(
             closes,
             next,
         } => {
-            let end = from + reads as usize;
-            done.next = next;
-            done.closes = closes;
-            done.taken = end;
-            done.words = summary::of_trace(&log[from..end], out).unwrap_or(0);
-            done
+            let taken = from + reads as usize;
+            let words = summary::of_trace(&log[from..taken], out).unwrap_or(0);
+            Done {
+                next,
+                closes,
+                taken,
+                words,
+            }
         }
         Line::Join { next } => {
             let inner = under + 1;
             let below = left - 1;
-            done.next = next;
+            let mut done = Done {
+                next,
+                closes: 0,
+                taken: from,
+                words: 0,
+            };
             while done.closes == 0 {
                 let held = done.words;
-                let here = done.next;
-                let taken = done.taken;
                 reuse_copies::put(work, 0, &out[..held]);
-                done = evaluate(s, here, inner, log, taken, below, &mut work[LEVEL..], out);
+                done = evaluate(
+                    s,
+                    done.next,
+                    inner,
+                    log,
+                    done.taken,
+                    below,
+                    &mut work[LEVEL..],
+                    out,
+                );
                 done.words = plan_joins::join_held(work, held, out, done.words);
             }
             done.closes -= 1;

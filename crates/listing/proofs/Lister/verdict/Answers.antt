@@ -2,14 +2,13 @@
 use Rattle.std.specs.Prelude.{Err}
 use Rattle.reuse.proofs.Numbers.{named}
 use mathlib.Core.Path.{◌≡◌, sym, ap, ◌∙◌}
-use mathlib.Core.Logic.{either}
 use native.Mathlib.Omega.{arith}
 use mathlib.Core.Bool.{true}
 use lib.ListN.{length}
 use Rattle.texts.specs.Logs.{longest_line}
 use Rattle.listing.specs.Listers.{sound_lister}
 use Rattle.listing.proofs.Soundness.{sound-fits}
-use Rattle.listing.proofs.Finishing.{verdict-unsound, verdict-empty, verdict-reads, verdict-stopped, verdict-held, verdict-listed}
+use Rattle.listing.proofs.Finishing.{verdict-unsound, verdict-open, verdict-stopped, verdict-held, verdict-listed}
 use borrow.Author.Rules.{rules}
 use Rattle.listing.proofs.Lister.verdict.Goals as goal
 use Rattle.listing.proofs.Lister.verdict.Goals.{Else-not-sound, Start}
@@ -41,6 +40,4 @@ returns-else-more c =
     verdict-listed c.args.self (is-sound (goal.at.returns-else-more c).Else-not-sound) c.in-Whole.is (omega (arith, c.if-more.false))
 
 pub returns-in-Empty : goal.returns-in-Empty
-returns-in-Empty c =
-    let ok = is-sound (goal.at.returns-in-Empty c).Else-not-sound in
-    either c.in-Empty.is (λ e. verdict-empty c.args.self ok e) (λ e. verdict-reads c.args.self ok e)
+returns-in-Empty c = verdict-open c.args.self (is-sound (goal.at.returns-in-Empty c).Else-not-sound) c.in-Empty.is

@@ -108,8 +108,8 @@ below-back : (t : ℕ) (c : After-evaluate-done t) → 0 < c.args.left → lengt
 below-back t c p =
     c.evaluate-done.auto.work ∙ below-long c.put.new.out c.args.left p (omega (arith, c.put.auto.out, c.loop-done.invariant.0, c.requires.1.levels))
 
-pub overflow_add-end : goal.overflow_add-end
-overflow_add-end t c = omega (arith, seg-covered t c)
+pub overflow_add-taken : goal.overflow_add-taken
+overflow_add-taken t c = omega (arith, seg-covered t c)
 
 pub slice_bounds-of_trace-end : goal.slice_bounds-of_trace-end
 slice_bounds-of_trace-end t c = seg-covered t (goal.at.slice_bounds-of_trace-end t c).In-Seg
@@ -191,7 +191,7 @@ returns-in-Seg t c =
     let m : trace_call (mid_of a.from (a.from + g.reads - a.from) a.log.now) a.out.now ≡ trace_call (span a.from g.reads a.log.now) a.out.now =
     ap (λ (i : ℕ). trace_call (mid_of a.from i a.log.now) a.out.now) n in
     λ r. seg-done a.s.now a.at g.next a.log.now a.from a.left a.work.now a.out.now r.plan r.closes r.rest c.requires.1.within c.requires.1.room
-    (segged t l).1 (segged t l).2 g.reads g.closes (seg-is t l (segged t l).0 r) c.unwrap_or.result o.new.out (c.unwrap_or.ensures ∙ ap count_of o.ensures.0 ∙ ap (λ (v : Wrote). count_of v.answer) m) (o.ensures.1 ∙ ap (λ (v : Wrote). v.buffer) m) _ refl
+    (segged t l).1 (segged t l).2 g.reads g.closes (seg-is t l (segged t l).0 r) c.unwrap_or-words.result o.new.out (c.unwrap_or-words.ensures ∙ ap count_of o.ensures.0 ∙ ap (λ (v : Wrote). count_of v.answer) m) (o.ensures.1 ∙ ap (λ (v : Wrote). v.buffer) m) _ refl
 
 pub returns-after-loop-done : goal.returns-after-loop-done
 returns-after-loop-done t c =
