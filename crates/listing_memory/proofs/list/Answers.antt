@@ -59,8 +59,8 @@ returns-then-out-page c =
     let e = list-short c.args.out.now _ c.finish-page.result.bytes c.finish-page.result.len (listed (goal.at.returns-then-out-page c).After-finish-page) (holds (goal.at.returns-then-out-page c).After-finish-page) (printed (goal.at.returns-then-out-page c).After-finish-page) c.if-out-page.true in
     (sym (ap (λ (v : Wrote). v.answer) e), sym (ap (λ (v : Wrote). v.buffer) e))
 
-pub slice_bounds-page-end : goal.slice_bounds-page-end
-slice_bounds-page-end c = holds (goal.at.slice_bounds-page-end c).After-finish-page
+pub shared_ref_as_front-put : goal.shared_ref_as_front-put
+shared_ref_as_front-put c = holds (goal.at.shared_ref_as_front-put c).After-finish-page
 
 pub slice_bounds-put-end : goal.slice_bounds-put-end
 slice_bounds-put-end c = sym (length-take-le _ _ (holds (goal.at.slice_bounds-put-end c).After-finish-page))
