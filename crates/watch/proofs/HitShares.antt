@@ -1,4 +1,5 @@
 -- The share of any watch, whether or not a log has it.
+use Rattle.reuse.specs.declared.refusals.Refusal.TheVariants.{Unsound}
 use Rattle.std.specs.Prelude.{Ok}
 use mathlib.Core.Path.{◌≡◌}
 use native.Mathlib.Omega.{arith}
@@ -19,5 +20,5 @@ watch-none w ok = simp ok (share-none w.hits (servable_of w))
 pub watch-between : (w : Watch) → Between (share_call w)
 unfolding share_call
 watch-between w x e =
-    let q = given-share (sound_of w) (Ok (share_of w.hits (servable_of w))) 7 x e in
+    let q = given-share (sound_of w) (Ok (share_of w.hits (servable_of w))) Unsound x e in
     share-between w.hits (servable_of w) (omega (arith, (sound-watch w q.0).fits)) x q.1

@@ -1,5 +1,6 @@
 -- A refusal leaves the watch as it was.
-use Rattle.std.specs.Prelude.{Ok, Err}
+use Rattle.reuse.specs.declared.refusals.Refusal.{Refusal}
+use Rattle.std.specs.Prelude.{Result, Ok, Err}
 use mathlib.Core.Path.{◌≡◌, refl}
 use Prim.Native.Nat.{ℕ}
 use mathlib.Core.Bool.{Bool, true, false, cond}
@@ -12,22 +13,22 @@ use Rattle.watch.specs.declared.Reading.TheVariants.{Cold, Distance}
 use Rattle.watch.specs.Watching.{sound_of, counted_by, takes, counts, noted_of}
 
 -- a read more changes the watch only where it is counted
-counted-only : (v : Watch) (c h n : ℕ) → (counted_by v c h).outcome ≡ Err n → (counted_by v c h).watch ≡ v
+counted-only : (v : Watch) (c h : ℕ) (n : Refusal) → (counted_by v c h).outcome ≡ Err n → (counted_by v c h).watch ≡ v
 unfolding counted_by
 counted-only v c h n e = by (eqb v.reads max_reads) refl
   where
     -- by whether there is a read to spare
     by : (b : Bool) → eqb v.reads max_reads ≡ b → (counted_by v c h).watch ≡ v
     by true f = simp f
-    by false f = let z : (Ok tt) ≡ Err n = simp f at e in cc
+    by false f = let z : ◌≡◌ {A = Result Unit Refusal} (Ok tt) (Err n) = simp f at e in absurd (cc)
 
 -- so does a reading that the watch takes
-counts-only : (v : Watch) (q : Reading) (n : ℕ) → (counts v q).outcome ≡ Err n → (counts v q).watch ≡ v
+counts-only : (v : Watch) (q : Reading) (n : Refusal) → (counts v q).outcome ≡ Err n → (counts v q).watch ≡ v
 counts-only v Cold n e = counted-only v 1 0 n e
 counts-only v (Distance d) n e = counted-only v 0 (cond (leb d v.size) 1 0) n e
 
 -- and every update
-pub unchanged : (v : Watch) (q : Reading) (n : ℕ) → (noted_of v q).outcome ≡ Err n → (noted_of v q).watch ≡ v
+pub unchanged : (v : Watch) (q : Reading) (n : Refusal) → (noted_of v q).outcome ≡ Err n → (noted_of v q).watch ≡ v
 unfolding noted_of
 unchanged v q n e =
     by-test (sound_of v)

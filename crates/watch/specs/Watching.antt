@@ -61,10 +61,14 @@ servable_of w = w.reads - w.cold
 unfoldable pub share_call : Watch → Result HitShare Refusal
 share_call w = cond (sound_of w) (Ok (share_of w.hits (servable_of w))) (Err Unsound)
 
--- what the watch takes of a session's answer: of a cold one not its number, of none the sums read or the slots looked at
+-- what the watch takes of an answer: of a cold one not its number, of none the sums read or the slots looked at
+abbrev pub taken_of : Answer → Reading
+taken_of (ColdRead n k) = Cold
+taken_of (DistanceRead d n k) = Distance d
+
+-- and of a session's answer, which may be a refusal
 abbrev pub heard_of : Result Answer Refusal → Result Reading Refusal
-heard_of (Ok (ColdRead n k)) = Ok Cold
-heard_of (Ok (DistanceRead d n k)) = Ok (Distance d)
+heard_of (Ok answer) = Ok (taken_of answer)
 heard_of (Err n) = Err n
 
 -- a trace's answer as a reading: a cold one without its number

@@ -1,11 +1,12 @@
 // A watch on one cache size: reads, cold reads and hits, kept with the caller and changed there by each answer.
-#![tactic(auto)]
+#![tactic(auto, unfolding(crate::specs::Watching::sound_of, crate::specs::Watching::counted_by, crate::specs::Watching::noted_of, crate::specs::Watching::misses_call, crate::specs::Watching::share_call))]
 
 ghost use Rattle.std.specs.Prelude.{◌≡◌, true, ◌+◌, ◌≤◌};
-ghost use Rattle.watch.specs.Watching.{new_of, sound_of, in_range, counted_by, noted_of, misses_call, share_call, heard_of};
+ghost use Rattle.watch.specs.Watching.{new_of, sound_of, refused, in_range, counted_by, noted_of, misses_call, share_call, taken_of, heard_of};
 
+use reuse::Refusal;
 use session_calls::Answer;
-use summary::{MissCount, ShareAnswer};
+use summary_calls::HitShare;
 
 // The size watched, and the counts.
 #[derive(Clone, Copy)]
@@ -23,11 +24,15 @@ pub enum Reading {
     Distance(u32),
 }
 
-// What an update answers: the read was counted, or the refusal's number.
-#[derive(Clone, Copy)]
-pub enum Outcome {
-    Counted,
-    Refused(u32),
+impl From<Answer> for Reading {
+    ghost from_gives = { λ answer reading. reading ≡ taken_of answer };
+
+    fn from(answer: Answer) -> Self {
+        match answer {
+            Answer::Cold { .. } => Reading::Cold,
+            Answer::Distance { distance, .. } => Reading::Distance(distance),
+        }
+    }
 }
 
 // The watch after an update, beside its answer.
@@ -35,13 +40,6 @@ pub enum Outcome {
 pub struct Change {
     pub watch: Watch,
     pub outcome: Result<(), Refusal>,
-}
-
-// A session's answer: a reading for the watch, or the refusal's number.
-#[derive(Drop)]
-pub enum Heard {
-    Read(Reading),
-    Refused(u32),
 }
 
 // A new watch for a size.
@@ -60,17 +58,17 @@ pub fn new_watch(size: u32) -> Watch
 pub fn sound(w: Watch) -> bool
     ensures { result ≡ sound_of w }
 {
-    let reads = w.reads;
-    let cold = w.cold;
-    let hits = w.hits;
-    if reuse::MAX_READS < reads {
-        return false;
+    w.reads <= reuse::MAX_READS && w.cold <= w.reads && w.hits <= w.reads - w.cold
+}
+
+// The watch as it was, beside the refusal.
+fn refused(w: Watch, refusal: Refusal) -> Change
+    ensures { result ≡ refused w refusal }
+{
+    Change {
+        watch: w,
+        outcome: Err(refusal),
     }
-    let wanting = reads < cold;
-    if wanting {
-        return false;
-    }
-    hits <= reads - cold
 }
 
 // A read more of a sound watch, with this many cold reads and hits more.
@@ -78,39 +76,17 @@ fn counted(w: Watch, cold: u32, hits: u32) -> Change
     requires { (sound_of w ≡ true) × (cold + hits ≤ 1) }
     ensures { result ≡ counted_by w cold hits }
 {
-    let reads = w.reads;
-    let full = reads == reuse::MAX_READS;
-    if full {
-        return Change {
-            watch: w,
-            outcome: Err(Refusal::TooManyReads),
-        };
+    if w.reads == reuse::MAX_READS {
+        return refused(w, Refusal::TooManyReads);
     }
-    let watch = Watch {
-        size: w.size,
-        reads: reads + 1,
-        cold: w.cold + cold,
-        hits: w.hits + hits,
-    };
     Change {
-        watch,
+        watch: Watch {
+            size: w.size,
+            reads: w.reads + 1,
+            cold: w.cold + cold,
+            hits: w.hits + hits,
+        },
         outcome: Ok(()),
-    }
-}
-
-// The watch after one more answer.
-pub fn noted(w: Watch, reading: Reading) -> Change
-    ensures { result ≡ noted_of w reading }
-{
-    if !sound(w) {
-        return Change {
-            watch: w,
-            outcome: Err(Refusal::Unsound),
-        };
-    }
-    match reading {
-        Reading::Cold => counted(w, 1, 0),
-        Reading::Distance(d) => at_distance(w, d),
     }
 }
 
@@ -118,38 +94,30 @@ pub fn noted(w: Watch, reading: Reading) -> Change
 fn in_range(d: u32) -> bool
     ensures { result ≡ in_range d }
 {
-    let zero = d < 1;
-    if zero {
-        return false;
-    }
-    d as usize <= reuse::MAX_EXTENTS
+    (1..=reuse::MAX_EXTENTS).contains(&(d as usize))
 }
 
-// A read at a distance of a sound watch.
-fn at_distance(w: Watch, d: u32) -> Change
-    requires { sound_of w ≡ true }
-    ensures { result ≡ noted_of w (Reading.Distance d) }
+// The watch after one more answer.
+pub fn noted(w: Watch, reading: Reading) -> Change
+    ensures { result ≡ noted_of w reading }
 {
-    if !in_range(d) {
-        return Change {
-            watch: w,
-            outcome: Err(Refusal::OutOfRange),
-        };
+    if !sound(w) {
+        return refused(w, Refusal::Unsound);
     }
-    let hit = d <= w.size;
-    if hit {
-        return counted(w, 0, 1);
+    match reading {
+        Reading::Cold => counted(w, 1, 0),
+        Reading::Distance(d) if in_range(d) => counted(w, 0, (d <= w.size) as u32),
+        Reading::Distance(_) => refused(w, Refusal::OutOfRange),
     }
-    counted(w, 0, 0)
 }
 
 // The same on a record that the caller lends: it is changed there.
 pub fn note(w: &mut Watch, reading: Reading) -> Result<(), Refusal>
     ensures { (result ≡ (noted_of w.old reading).outcome) × (w.new ≡ (noted_of w.old reading).watch) }
 {
-    let n = noted(*w, reading);
-    *w = n.watch;
-    n.outcome
+    let Change { watch, outcome } = noted(*w, reading);
+    *w = watch;
+    outcome
 }
 
 // The misses: reads less hits.
@@ -166,28 +134,15 @@ pub fn misses(w: Watch) -> Result<u32, Refusal>
 pub fn share(w: Watch) -> Result<HitShare, Refusal>
     ensures { result ≡ share_call w }
 {
-    if !sound(w) {
-        return Err(Refusal::Unsound);
-    }
     let reads = w.reads;
+    let hits = reads - misses(w)?;
     let servable = reads - w.cold;
-    Ok(summary::share_of(w.hits, servable))
+    Ok(summary::share_of(hits, servable))
 }
 
 // What the watch takes of a session's answer.
-pub fn reading_of(answer: Answer) -> Result<Reading, Refusal>
+pub fn reading_of(answer: Result<Answer, Refusal>) -> Result<Reading, Refusal>
     ensures { result ≡ heard_of answer }
 {
-    match answer {
-        Answer::Cold {
-            number: _,
-            slots_looked: _,
-        } => Ok(Reading::Cold),
-        Answer::Distance {
-            distance,
-            sums_read: _,
-            slots_looked: _,
-        } => Ok(Reading::Distance(distance)),
-        Err(n) => Err(n),
-    }
+    Ok(Reading::from(answer?))
 }

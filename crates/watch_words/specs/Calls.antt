@@ -1,6 +1,6 @@
 -- What the calls on words that hold a watch answer and leave.
 use Rattle.summary_calls.specs.declared.HitShare.{HitShare}
-use Rattle.std.specs.Prelude.{ℕ, ◌+◌, Bool, true, false, cond, ◌&&◌, List, [], ◌∷◌, leb, ltb, length, Result, Ok, Err}
+use Rattle.std.specs.Prelude.{ℕ, ◌+◌, Bool, cond, ◌&&◌, List, [], ◌∷◌, leb, ltb, length, Result, Ok, Err}
 use Rattle.reuse.specs.declared.refusals.Refusal.{Refusal}
 use Rattle.reuse.specs.declared.refusals.Refusal.TheVariants.{Unsound}
 use Rattle.reuse.specs.Limits.{max_extents}
@@ -18,6 +18,10 @@ use Rattle.watch_words.specs.Layout.{watch_length, watch_in, watch_laid}
 -- a new watch's words, or 6
 unfoldable pub new_watch : ℕ → List ℕ → Wrote
 new_watch size w = wrote (watch_laid (new_of size)) w
+
+-- the watch in the first words; too few words are no sound watch
+unfoldable pub held_in : List ℕ → Result Watch Refusal
+held_in w = cond (leb watch_length (length w)) (Ok (watch_in w)) (Err Unsound)
 
 -- 65,536 plus a number from 1 to the limit of extents
 abbrev pub is_cold_word : ℕ → Bool
@@ -48,8 +52,3 @@ misses_in w = cond (leb watch_length (length w)) (misses_call (watch_in w)) (Err
 -- the hit share of the watch in the first words
 unfoldable pub share_in : List ℕ → Result HitShare Refusal
 share_in w = cond (leb watch_length (length w)) (share_call (watch_in w)) (Err Unsound)
-
--- an update was counted
-abbrev pub is_counted : Result Unit Refusal → Bool
-is_counted (Ok tt) = true
-is_counted (Err n) = false

@@ -1,28 +1,36 @@
 // A watch kept in lent words.
-#![tactic(auto)]
+#![tactic(auto, unfolding(reuse_rows::specs::Rows::put_at, reuse_rows::specs::Rows::placed, summary_calls::specs::Calls::wrote, crate::specs::Layout::watch_in, crate::specs::Layout::watch_laid, crate::specs::Calls::new_watch, crate::specs::Calls::held_in, crate::specs::Calls::note_in, crate::specs::Calls::misses_in, crate::specs::Calls::share_in))]
 
 ghost use Rattle.std.specs.Prelude.{◌≡◌, ◌≤◌, length};
 ghost use Rattle.reuse_rows.specs.Rows.{put_at};
-ghost use Rattle.watch_words.specs.Layout.{watch_length, watch_in, watch_laid};
-ghost use Rattle.watch_words.specs.Calls.{new_watch, is_cold_word, reading_at, note_in, watch_left, misses_in, share_in, is_counted};
+ghost use Rattle.watch_words.specs.Layout.{watch_length, watch_laid};
+ghost use Rattle.watch_words.specs.Calls.{new_watch, held_in, reading_at, note_in, watch_left, misses_in, share_in};
 
-use summary_calls::{MissCount, ShareAnswer, Written};
-use watch::{Outcome, Reading, Watch};
+use reuse::Refusal;
+use summary_calls::HitShare;
+use watch::{Reading, Watch};
 
 // The words of a watch: its size, its reads, its cold reads, its hits.
 const WATCH: usize = 4;
 
-// The watch that stands in the first words.
-fn watch_in(words: &[u32]) -> Watch
-    requires { watch_length ≤ length words.now }
-    ensures { result ≡ watch_in words.now }
+// The words of cold reads: 65,536 plus a number from 1 to the limit of extents.
+const FIRST_COLD: u32 = reuse::COLD_BASE + 1;
+
+const LAST_COLD: u32 = reuse::COLD_BASE + reuse::MAX_EXTENTS as u32;
+
+// The watch in the words; too few words are no sound watch.
+fn watch_in(words: &[u32]) -> Result<Watch, Refusal>
+    ensures { result ≡ held_in words.now }
 {
-    Watch {
-        size: words[0],
-        reads: words[1],
-        cold: words[2],
-        hits: words[3],
-    }
+    let [size, reads, cold, hits, ..] = *words else {
+        return Err(Refusal::Unsound);
+    };
+    Ok(Watch {
+        size,
+        reads,
+        cold,
+        hits,
+    })
 }
 
 // The watch's words are put to the front of the row.
@@ -30,37 +38,16 @@ fn put_watch(words: &mut [u32], w: Watch)
     requires { watch_length ≤ length words.old }
     ensures { words.new ≡ put_at words.old 0 (watch_laid w) }
 {
-    let row = [w.size, w.reads, w.cold, w.hits];
-    reuse_copies::put(words, 0, &row);
-}
-
-// Whether the word is 65,536 plus a number from 1 to the limit of extents.
-fn is_cold(word: u32) -> bool
-    ensures { result ≡ is_cold_word word }
-{
-    if word <= reuse::COLD_BASE {
-        return false;
-    }
-    (word - reuse::COLD_BASE) as usize <= reuse::MAX_EXTENTS
+    reuse_copies::put(words, 0, &[w.size, w.reads, w.cold, w.hits]);
 }
 
 // A word as the buffer of distances writes it: a cold read, whatever its number, or else a distance.
 fn reading(word: u32) -> Reading
     ensures { result ≡ reading_at word }
 {
-    if is_cold(word) {
-        return Reading::Cold;
-    }
-    Reading::Distance(word)
-}
-
-// Whether an update was counted.
-fn was_counted(o: Result<(), Refusal>) -> bool
-    ensures { result ≡ is_counted o }
-{
-    match o {
-        Ok(()) => true,
-        Err(_) => false,
+    match word {
+        FIRST_COLD..=LAST_COLD => Reading::Cold,
+        distance => Reading::Distance(distance),
     }
 }
 
@@ -71,8 +58,7 @@ pub fn new_watch(size: u32, words: &mut [u32]) -> Result<usize, Refusal>
     if words.len() < WATCH {
         return Err(Refusal::NoRoom);
     }
-    let w = watch::new_watch(size);
-    put_watch(words, w);
+    put_watch(words, watch::new_watch(size));
     Ok(WATCH)
 }
 
@@ -80,36 +66,23 @@ pub fn new_watch(size: u32, words: &mut [u32]) -> Result<usize, Refusal>
 pub fn read(words: &mut [u32], word: u32) -> Result<(), Refusal>
     ensures { (result ≡ (note_in words.old word).outcome) × (words.new ≡ watch_left (note_in words.old word).outcome (note_in words.old word).watch words.old) }
 {
-    if words.len() < WATCH {
-        return Err(Refusal::Unsound);
-    }
-    let w = watch_in(words);
+    let w = watch_in(words)?;
     let change = watch::noted(w, reading(word));
-    let outcome = change.outcome;
-    if !was_counted(outcome) {
-        return outcome;
-    }
-    let after = change.watch;
-    put_watch(words, after);
-    outcome
+    change.outcome?;
+    put_watch(words, change.watch);
+    Ok(())
 }
 
 // The misses of the watch in the words.
 pub fn misses(words: &[u32]) -> Result<u32, Refusal>
     ensures { result ≡ misses_in words.now }
 {
-    if words.len() < WATCH {
-        return Err(Refusal::Unsound);
-    }
-    watch::misses(watch_in(words))
+    watch::misses(watch_in(words)?)
 }
 
 // The hit share of the watch in the words.
 pub fn share(words: &[u32]) -> Result<HitShare, Refusal>
     ensures { result ≡ share_in words.now }
 {
-    if words.len() < WATCH {
-        return Err(Refusal::Unsound);
-    }
-    watch::share(watch_in(words))
+    watch::share(watch_in(words)?)
 }
