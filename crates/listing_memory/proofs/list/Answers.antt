@@ -60,7 +60,9 @@ returns-then-out-page c =
     (sym (ap (λ (v : Wrote). v.answer) e), sym (ap (λ (v : Wrote). v.buffer) e))
 
 pub shared_ref_as_front-put : goal.shared_ref_as_front-put
-shared_ref_as_front-put c = holds (goal.at.shared_ref_as_front-put c).After-finish-page
+shared_ref_as_front-put c =
+    let w : length c.finish-page.result.bytes ≡ page_bytes = search rules in
+    omega (arith, w, holds (goal.at.shared_ref_as_front-put c).After-finish-page)
 
 pub slice_bounds-put-end : goal.slice_bounds-put-end
 slice_bounds-put-end c = sym (length-take-le _ _ (holds (goal.at.slice_bounds-put-end c).After-finish-page))
