@@ -12,8 +12,8 @@ ghost use Rattle.listing.specs.Listers.{sound_lister, state_of, lister_with, lis
 pub use listing_pages::{PAGE_BYTES, Page};
 pub use listing_tally::Phase;
 use listing_tally::{LONGEST, Progress};
-use reuse::Refusal;
 use listing_turns::Turn;
+use reuse::Refusal;
 
 // A log text taken so far: what is held of a line that has not ended, how far the text is, and the tally of its reads.
 #[derive(Clone, Copy)]

@@ -23,7 +23,13 @@ pub fn run(text: &[u8], log: &[u32], work: &mut [u32], out: &mut [u32]) -> Resul
 }
 
 // A plan of this depth whose segs add up to the log.
-fn carry_out(text: &[u8], log: &[u32], work: &mut [u32], out: &mut [u32], depth: usize) -> Result<usize, Refusal>
+fn carry_out(
+    text: &[u8],
+    log: &[u32],
+    work: &mut [u32],
+    out: &mut [u32],
+    depth: usize,
+) -> Result<usize, Refusal>
     requires { Accepted text.now log.now depth }
     ensures is { result ≡ (run_call text.now log.now work.old out.old).answer }
     ensures work { work.new ≡ (run_call text.now log.now work.old out.old).work }

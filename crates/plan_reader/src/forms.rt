@@ -35,7 +35,13 @@ fn closable(most: usize, count: usize) -> usize
 
 // The form at `at` under `under` joins, of which `most` may close after it, the innermost with `count` parts so far.
 #[cycle(form_parts)]
-pub fn form(s: &[u8], at: usize, under: usize, most: usize, count: usize) -> Result<FormRead, Refusal>
+pub fn form(
+    s: &[u8],
+    at: usize,
+    under: usize,
+    most: usize,
+    count: usize,
+) -> Result<FormRead, Refusal>
     requires { (at ≤ length s.now) × (length s.now ≤ max_bytes) × (under ≤ max_joins) × (most ≤ under) }
     ensures within { FormWithin at (length s.now) most under max_joins 0 result }
     ensures is { FormIs s.now at under most count result }

@@ -10,7 +10,12 @@ ghost use Rattle.split_calls.specs.Calls.{split_call};
 use reuse::{MAX_CUSTOMERS, MAX_STORE, Refusal};
 
 // The misses in all of the customers' summaries at the shares found, which stand at the front of `shares`.
-pub fn split(store: u32, leasts: &[u32], summaries: &[u32], shares: &mut [u32]) -> Result<u32, Refusal>
+pub fn split(
+    store: u32,
+    leasts: &[u32],
+    summaries: &[u32],
+    shares: &mut [u32],
+) -> Result<u32, Refusal>
     ensures { (result ≡ (split_call store leasts.now summaries.now shares.old).answer) × (shares.new ≡ (split_call store leasts.now summaries.now shares.old).shares) }
 {
     let room = store as usize;

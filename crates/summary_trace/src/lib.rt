@@ -5,8 +5,8 @@ ghost use Rattle.std.specs.Prelude.{◌≡◌};
 ghost use Rattle.summary_calls.specs.Calls.{trace_call};
 ghost use Rattle.summary_trace.specs.Tracing.{Blank, Taken};
 
-use reuse_engine::Place;
 use reuse::Refusal;
+use reuse_engine::Place;
 
 // The summary of a trace, at the front of `out`.
 pub fn of_trace(trace: &[u32], out: &mut [u32]) -> Result<usize, Refusal>

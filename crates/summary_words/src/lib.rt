@@ -10,7 +10,13 @@ ghost use Rattle.summary_words.specs.Parts.{Writable};
 use reuse::Refusal;
 
 // The words at the front of `out`, or the refusal: more extents than the limit, or too few words.
-pub fn write(reads: u32, first: &[u32], recent: &[u32], counts: &[u32], out: &mut [u32]) -> Result<usize, Refusal>
+pub fn write(
+    reads: u32,
+    first: &[u32],
+    recent: &[u32],
+    counts: &[u32],
+    out: &mut [u32],
+) -> Result<usize, Refusal>
     ensures { (result ≡ (words_call reads first.now recent.now counts.now out.old).answer) × (out.new ≡ (words_call reads first.now recent.now counts.now out.old).buffer) }
 {
     if reuse::MAX_EXTENTS < first.len() {

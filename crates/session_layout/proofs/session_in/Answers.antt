@@ -19,11 +19,11 @@ returns c =
     let w = c.args.words.now in
     let l = c.if-words-lt-SESSION.false in
     (λ i. Some (record {
-        reads = get_or w 0 0;
-        first = (c.padded-first.ensures ∙ padded-whole _ (part_length w first_place max_extents (omega (arith, l)))) i;
-        hist = (c.padded-hist.ensures ∙ padded-whole _ (part_length w hist_place max_extents (omega (arith, l)))) i;
-        slots = (c.put.ensures ∙ placed-whole _ _ (part_length w slots_place slot_count (omega (arith, l)))) i;
-        count = get_or w count_place 0;
-        rights = (c.put-2.ensures ∙ placed-whole _ _ (part_length w rights_place right_count (omega (arith, l)))) i;
-        next = get_or w next_place 0;
+      reads = get_or w 0 0;
+      first = (c.padded-first.ensures ∙ padded-whole _ (part_length w first_place max_extents (omega (arith, l)))) i;
+      hist = (c.padded-hist.ensures ∙ padded-whole _ (part_length w hist_place max_extents (omega (arith, l)))) i;
+      slots = (c.put.ensures ∙ placed-whole _ _ (part_length w slots_place slot_count (omega (arith, l)))) i;
+      count = get_or w count_place 0;
+      rights = (c.put-2.ensures ∙ placed-whole _ _ (part_length w rights_place right_count (omega (arith, l)))) i;
+      next = get_or w next_place 0;
     })) ∙ sym (kept-all w l)

@@ -29,7 +29,6 @@ returns-then-more c =
     let l = c.args.self in
     verdict-held l (is-sound (goal.at.returns-then-more c).Else-not-sound) c.in-Whole.is c.if-more.true (omega (arith, sound-fits l (is-sound (goal.at.returns-then-more c).Else-not-sound), line-wide (goal.at.returns-then-more c).Start))
 
-
 pub returns-in-Stopped : goal.returns-in-Stopped
 returns-in-Stopped c =
     ap Err (c.unwrap_or.ensures ∙ named c.in-Stopped.n _ c.try_from.ensures)
