@@ -1,25 +1,15 @@
--- The negatives of numbers below 2 ^ 63, and answers read back from their bits.
+-- Answers read back from their bits.
 use Rattle.std.specs.Prelude.{Result, Ok, Err}
 use Rattle.reuse.specs.declared.refusals.Refusal.{Refusal}
 use mathlib.Core.Path.{◌≡◌, refl, ap, ◌∙◌}
-use Prim.Native.Nat.{ℕ, zero, suc, ◌<◌, ◌^◌, min}
+use Prim.Native.Nat.{ℕ, ◌<◌, ◌^◌, min}
 use native.Mathlib.Omega.{arith}
-use lib.IntN.{ℤ, pos, neg_ℤ, ◌-ℤ◌, +ℤ_idl}
+use lib.IntN.{ℤ, pos}
 use lib.Signed.{mag}
 use mir.Syntax.{w64}
-use mir.Val.{SFits, to_z, of_z}
+use mir.Val.{to_z, of_z}
 use mir.ValLaws.{to_z-of_z}
-use Rattle.reuse.proofs.Signed.{read_pos}
-use Rattle.capi_answers.specs.Answers.{negative, counted, most_signed, counted_most, Small}
-
--- the negative of a number
-pub negative_fits : (n : ℕ) → n < 2 ^ 63 → SFits w64 (negative n)
-negative_fits zero h = record { sfits = omega arith }
-negative_fits (suc n) h = record { sfits = omega arith }
-
--- 0 less the number is its negative
-pub zero-less : (n : ℕ) → n < 2 ^ 63 → to_z w64 0 -ℤ to_z w64 n ≡ negative n
-zero-less n h = ap (λ (z : ℤ). pos 0 -ℤ z) (read_pos n h) ∙ +ℤ_idl (neg_ℤ (pos n))
+use Rattle.capi_answers.specs.Answers.{counted, most_signed, counted_most, Small}
 
 -- a signed number that a call answered is read back from its bits
 pub read_back : (x z : ℤ) → mag x < 2 ^ 63 → x ≡ z → to_z w64 (of_z w64 x) ≡ z
