@@ -8,6 +8,8 @@ ghost use Rattle.listing_texts.specs.Pages.{AddsUp, page_text};
 ghost use Rattle.listing_rows.specs.Laying.{laid_at, lay_all};
 ghost use Rattle.listing_pages.specs.Texts.{rows_pieces, listing_pieces, refused_pieces, page_of};
 
+use reuse::Refusal;
+
 // More bytes than the lines before the sizes' rows have.
 const HEAD_ROOM: usize = 64;
 
@@ -76,10 +78,10 @@ pub fn listing_page(reads: u32, counts: &[u32]) -> Page
 {
     let cold = counts.len();
     if reuse::MAX_EXTENTS < cold {
-        return refused_page(7);
+        return refused_page(u32::from(Refusal::Unsound));
     }
     if cold as u64 + reuse_rows::total(counts) != reads as u64 {
-        return refused_page(7);
+        return refused_page(u32::from(Refusal::Unsound));
     }
     let mut bytes = [0u8; PAGE_BYTES];
     let len = put_listing(&mut bytes, reads, counts);

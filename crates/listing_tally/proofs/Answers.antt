@@ -113,10 +113,10 @@ module _ (reads extents : ℕ) (stack counts : List ℕ) where
     line-end e r q = rw (e, q)
 
     -- a line after a refusal
-    pub line-stop : (n : ℕ) → phase ≡ Stopped n → (r : Progress) → r ≡ refused n reads extents
-        → stands_at r stack counts ≡ line_taken reads extents stack counts phase line
+    pub line-stop : (n : ℕ) → phase ≡ Stopped n
+        → stands_at (record { phase = phase; reads = reads; extents = extents }) stack counts ≡ line_taken reads extents stack counts phase line
     unfolding line_taken
-    line-stop n e r q = rw (e, q)
+    line-stop n e = rw e
 
   -- a line that ends
   module _ (phase : Phase) (front : List ℕ) (held : ℕ) (rest : List ℕ) where

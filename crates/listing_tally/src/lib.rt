@@ -2,11 +2,13 @@
 #![tactic(auto)]
 
 ghost use Rattle.std.specs.Prelude.{◌≡◌};
+ghost use Rattle.reuse.specs.Refusals.{number_of};
 ghost use Rattle.texts.specs.Words.{after};
 ghost use Rattle.texts.specs.Logs.{trace_word};
 ghost use Rattle.listing_lines.specs.Forms.{head_found};
 ghost use Rattle.listing_tally.specs.Standings.{stands_at, refused, go_on, head_taken, read_taken, line_taken, end_taken};
 
+use reuse::Refusal;
 use reuse_engine::Place;
 
 // The bytes of the longest line.
@@ -21,6 +23,7 @@ pub enum Phase {
     Empty,
     Inside,
     Whole,
+    // A number, and no Refusal: a lister comes from outside with any.
     Stopped(u32),
 }
 
@@ -33,12 +36,12 @@ pub struct Progress {
 }
 
 impl Progress {
-    // The text is refused with this number, its tally as it is.
-    fn refused(self, n: u32) -> Progress
-        ensures { result ≡ refused n self.reads self.extents }
+    // The text is refused, its tally as it is.
+    fn refused(self, refusal: Refusal) -> Progress
+        ensures { result ≡ refused (number_of refusal) self.reads self.extents }
     {
         Progress {
-            phase: Phase::Stopped(n),
+            phase: Phase::Stopped(u32::from(refusal)),
             ..self
         }
     }
@@ -61,7 +64,7 @@ fn take_head(line: &[u8], progress: Progress) -> Progress
     ensures { result ≡ head_taken progress.reads progress.extents (head_found (after trace_word line.now)) }
 {
     let Some(ends) = listing_lines::head_of(line) else {
-        return progress.refused(1);
+        return progress.refused(Refusal::FaultyLine);
     };
     gone_on(ends, 0, 0)
 }
@@ -80,13 +83,13 @@ fn take_read(
     let wide = MAX_EXTENT < x;
     let full = reuse::MAX_READS <= reads;
     if wide {
-        return progress.refused(2);
+        return progress.refused(Refusal::OutOfRange);
     }
     if full {
-        return progress.refused(8);
+        return progress.refused(Refusal::TooManyReads);
     }
     if counts.len() < stack.len() {
-        return progress.refused(7);
+        return progress.refused(Refusal::Unsound);
     }
     let place = reuse_engine::touch(stack, extents, x as u32);
     match place {
@@ -99,8 +102,8 @@ fn take_read(
             counts[i] = counts[i].wrapping_add(1);
             gone_on(ends, reads + 1, extents)
         }
-        Place::Full => progress.refused(9),
-        Place::BadCount => progress.refused(7),
+        Place::Full => progress.refused(Refusal::TooManyExtents),
+        Place::BadCount => progress.refused(Refusal::Unsound),
     }
 }
 
@@ -112,16 +115,16 @@ pub fn take_line(line: &[u8], progress: Progress, stack: &mut [u32], counts: &mu
         Phase::Empty => take_head(line, progress),
         Phase::Inside => {
             let Some((x, ends)) = listing_lines::row_of(line) else {
-                return progress.refused(1);
+                return progress.refused(Refusal::FaultyLine);
             };
             take_read(x, ends, progress, stack, counts)
         }
-        Phase::Whole => progress.refused(1),
-        Phase::Stopped(n) => progress.refused(n),
+        Phase::Whole => progress.refused(Refusal::FaultyLine),
+        Phase::Stopped(_) => progress,
     }
 }
 
-// A line ends: its first `held` bytes stand in `line`, and `rest` are the others. Refused with 1 where it is too long.
+// A line ends: its first `held` bytes stand in `line`, and `rest` are the others. A faulty line where it is too long.
 pub fn end_line(
     line: [u8; LONGEST],
     held: usize,
@@ -133,7 +136,7 @@ pub fn end_line(
     ensures { stands_at result stack.new counts.new ≡ end_taken progress.reads progress.extents stack.old counts.old progress.phase line held rest.now }
 {
     if LONGEST < held || LONGEST - held < rest.len() {
-        return progress.refused(1);
+        return progress.refused(Refusal::FaultyLine);
     }
     let none = held == 0;
     if none {

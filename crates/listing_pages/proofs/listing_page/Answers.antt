@@ -1,11 +1,12 @@
 -- `listing_pages::listing_page` meets its contract.
 use mathlib.Core.Path.{◌≡◌, ap, ◌∙◌}
-use Prim.Native.Nat.{◌≤◌}
+use Prim.Native.Nat.{ℕ, ◌≤◌}
 use native.Mathlib.Omega.{arith}
 use lib.ListN.{length}
 use lib.Seq.{take_all}
 use Rattle.reuse.specs.Limits.{max_extents}
 use Rattle.reuse.specs.Lists.{sum}
+use Rattle.listing_texts.specs.Listings.{refused_text}
 use Rattle.listing_texts.specs.Pages.{AddsUp}
 use Rattle.listing_texts.specs.Tallies.{misses_by}
 use Rattle.listing_texts.proofs.RowLaws.{page-listed, page-many, page-other}
@@ -27,12 +28,14 @@ adds c =
     record { few = omega arith; whole = omega arith }
 
 pub returns-then-cold-gt-MAX_EXTENTS : goal.returns-then-cold-gt-MAX_EXTENTS
-returns-then-cold-gt-MAX_EXTENTS c = c.refused_page.ensures ∙ ap page_of (page-many _ _ c.if-cold-gt-MAX_EXTENTS.true)
+returns-then-cold-gt-MAX_EXTENTS c = c.refused_page.ensures ∙ ap (λ (n : ℕ). page_of (refused_text n)) c.from.ensures ∙ ap page_of (page-many _ _ c.if-cold-gt-MAX_EXTENTS.true)
 
 pub returns-then-cold-total : goal.returns-then-cold-total
 returns-then-cold-total c =
     let s = total-is (goal.at.returns-then-cold-total c).After-total c.if-cold-gt-MAX_EXTENTS.false in
-    c.refused_page-then-cold-total.ensures ∙ ap page_of (page-other _ _ (omega arith) (λ e. c.if-cold-total.true (omega arith)))
+    c.refused_page-then-cold-total.ensures
+    ∙ ap (λ (n : ℕ). page_of (refused_text n)) c.from-then-cold-total.ensures
+    ∙ ap page_of (page-other _ _ (omega arith) (λ e. c.if-cold-total.true (omega arith)))
 
 pub put_listing-len-requires : goal.put_listing-len-requires
 put_listing-len-requires c = adds c

@@ -29,4 +29,4 @@ returns-in-Whole c =
 pub returns-in-Stopped : goal.returns-in-Stopped
 returns-in-Stopped c =
     let a = c.args in
-    line-stop a.progress.reads a.progress.extents a.stack.now a.counts.now a.progress.phase a.line.now c.in-Stopped.n c.in-Stopped.is c.refused-in-Stopped.result c.refused-in-Stopped.ensures
+    line-stop a.progress.reads a.progress.extents a.stack.now a.counts.now a.progress.phase a.line.now c.in-Stopped.field-0 c.in-Stopped.is
