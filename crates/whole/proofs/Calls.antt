@@ -2,6 +2,7 @@
 use Rattle.std.specs.Prelude.{Result, Ok, Err}
 use Rattle.reuse.specs.declared.refusals.Refusal.{Refusal}
 use Rattle.reuse.specs.declared.refusals.Refusal.TheVariants.{TooManyReads, TooManyExtents}
+use Rattle.reuse.specs.Refusals.{refusal_with}
 use Prim.Native.Nat.{ℕ, suc, ◌≤◌}
 use mathlib.Core.Path.{◌≡◌, refl, sym, ap, ◌∙◌}
 use mathlib.Core.List.{List, [], ◌∷◌, ◌++◌, map, map-map, append_assoc, append-nil}
@@ -12,7 +13,7 @@ use lib.ListN.{length, length-append}
 use borrow.Author.Tests.{ne_eqb, eqb-true, eqb-false, lt-ltb, le-ltb}
 use Rattle.reuse.specs.Limits.{max_reads, max_extents}
 use Rattle.reuse.specs.Lists.{mem, firsts}
-use Rattle.reuse.specs.Lru.{cold, at, depth, touch, stack, reuses, distance}
+use Rattle.reuse.specs.Lru.{Reuse, cold, at, depth, touch, stack, reuses, distance}
 use Rattle.reuse.specs.Written.{word_of}
 use Rattle.reuse.specs.Traces.{Within}
 use Rattle.reuse.proofs.Lists.{by-test, firsts-known, firsts-new, firsts-longer}
@@ -65,19 +66,21 @@ past-extents t x w =
 -- a read by what is owed
 abbrev pub step_for : Session → ℕ → Seen → Step
 step_for s x (gives r) = step_at (roomed s) x r
-step_for s x (refused n) = read_refused s n
+step_for s x (refused n) = read_refused s (refusal_with n)
 
 -- it shows what is owed
-step-seen : (s : Session) (x : ℕ) (o : Seen) → seen_of (step_for s x o).answer ≡ o
-step-seen s x (gives (cold n)) = refl
-step-seen s x (gives (at d)) = refl
-step-seen s x (refused n) = refl
+step-seen : (s : Session) (x : ℕ) (c d : Bool) (r : Reuse)
+    → seen_of (step_for s x (cond c (refused 8) (cond d (refused 9) (gives r)))).answer ≡ cond c (refused 8) (cond d (refused 9) (gives r))
+step-seen s x true d r = refl
+step-seen s x false true r = refl
+step-seen s x false false (cold n) = refl
+step-seen s x false false (at d) = refl
 
 -- a read's answer decides how the log grows
 kept-grown : (a : Result Answer Refusal) (t l : List ℕ) (x : ℕ) → t ++ keep a x l ≡ grown (seen_of a) t x ++ l
 kept-grown (Ok (Cold n k)) t l x = sym (append_assoc t (x ∷ []) l)
 kept-grown (Ok (Distance d n k)) t l x = sym (append_assoc t (x ∷ []) l)
-kept-grown (Err n) t l x = refl
+kept-grown (Err why) t l x = refl
 
 module _ (s : Session) (t : List ℕ) (g : Stands s t) (x : ℕ) where
   -- a read is the one owed
@@ -97,7 +100,10 @@ module _ (s : Session) (t : List ℕ) (g : Stands s t) (x : ℕ) where
 
   -- its answer is the one owed
   pub read-owed : seen_of (read_of s x).answer ≡ read_owed t x
-  read-owed = ap (λ (r : Step). seen_of r.answer) read_step ∙ step-seen s x (read_owed t x)
+  unfolding read_owed
+  read-owed =
+      ap (λ (r : Step). seen_of r.answer) read_step
+      ∙ step-seen s x (ltb max_reads (length (t ++ (x ∷ [])))) (ltb max_extents (length (firsts (t ++ (x ∷ []))))) (distance t x)
 
   -- the session after it stands for the log as it grows
   pub read-grown : Stands (read_of s x).session (grown (read_owed t x) t x)
@@ -207,7 +213,7 @@ all-accepted (x ∷ u) s t g w =
     by : (a : Result Answer Refusal) → seen_of a ≡ gives (distance t x) → keep a x (accepted (read_of s x).session u) ≡ x ∷ accepted (read_of s x).session u
     by (Ok (Cold n k)) e = refl
     by (Ok (Distance d n k)) e = refl
-    by (Err n) e = let z : ◌≡◌ {A = ℕ} 0 1 = cc in absurd (omega arith)
+    by (Err why) e = let z : ◌≡◌ {A = ℕ} 0 1 = cc in absurd (omega arith)
 
     -- the log grows by the read
     stands : Stands (read_of s x).session (t ++ (x ∷ []))
@@ -238,11 +244,11 @@ seen_word (gives r) = word_of r
 seen_word (refused n) = 0
 
 -- so of a list of answers
-seen-words : (l : List (Result Result Answer Refusal Refusal)) → map seen_word (map seen_of l) ≡ map written l
+seen-words : (l : List (Result Answer Refusal)) → map seen_word (map seen_of l) ≡ map written l
 seen-words [] = refl
-seen-words (Ok (Cold n k ∷ l)) = ap {B = List ℕ} (λ r. word_of (cold n) ∷ r) (seen-words l)
-seen-words (Ok (Distance d n k ∷ l)) = ap {B = List ℕ} (λ r. word_of (at d) ∷ r) (seen-words l)
-seen-words (Err n ∷ l) = ap {B = List ℕ} (λ r. 0 ∷ r) (seen-words l)
+seen-words (Ok (Cold n k) ∷ l) = ap {B = List ℕ} (λ r. word_of (cold n) ∷ r) (seen-words l)
+seen-words (Ok (Distance d n k) ∷ l) = ap {B = List ℕ} (λ r. word_of (at d) ∷ r) (seen-words l)
+seen-words (Err why ∷ l) = ap {B = List ℕ} (λ r. 0 ∷ r) (seen-words l)
 
 -- the uncut reading's answers as the buffer writes them
 pub uncut-words : (t : List ℕ) → Within t → map written (answers_of fresh t) ≡ map word_of (reuses [] t)

@@ -40,12 +40,12 @@ saw w (gives r ∷ l) = saw (noted_of w (reading_of r)).watch l
 saw w (refused n ∷ l) = saw w l
 
 -- a watch that hears a session's answers hears what is seen of them
-hears-seen : (l : List (Result Result Answer Refusal Refusal)) (w : Watch) → watching w l ≡ saw w (map seen_of l)
+hears-seen : (l : List (Result Answer Refusal)) (w : Watch) → watching w l ≡ saw w (map seen_of l)
 unfolding watching saw
 hears-seen [] w = refl
-hears-seen (Ok (Cold n k ∷ l)) w = hears-seen l _
-hears-seen (Ok (Distance d n k ∷ l)) w = hears-seen l _
-hears-seen (Err n ∷ l) w = hears-seen l w
+hears-seen (Ok (Cold n k) ∷ l) w = hears-seen l _
+hears-seen (Ok (Distance d n k) ∷ l) w = hears-seen l _
+hears-seen (Err why ∷ l) w = hears-seen l w
 
 -- what is seen of a trace's answers
 saw-trace : (rs : List Reuse) (w : Watch) → saw w (map gives rs) ≡ watch_after w rs

@@ -25,7 +25,7 @@ use Rattle.whole.proofs.Counts.{counts}
 -- the number in an answer of misses
 abbrev misses_in : Result ℕ Refusal → ℕ
 misses_in (Ok n) = n
-misses_in (Err n) = 0
+misses_in (Err why) = 0
 
 -- what a session tells of the log it read
 told : (c : ℕ) (t : List ℕ) → Within t → (n : ℕ) → misses_call (session_after fresh t) c ≡ Ok n → cache_misses c t ≡ n

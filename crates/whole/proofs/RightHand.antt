@@ -2,7 +2,8 @@
 use Rattle.summary_calls.specs.declared.HitShare.{HitShare}
 use Rattle.std.specs.Prelude.{Result, Ok, Err}
 use Rattle.reuse.specs.declared.refusals.Refusal.{Refusal}
-use Rattle.reuse.specs.declared.refusals.Refusal.TheVariants.{Unsound}
+use Rattle.reuse.specs.declared.refusals.Refusal.TheVariants.{Unsound, TooManyReads, TooManyExtents}
+use Rattle.reuse.specs.Refusals.{number_of}
 use Prim.Native.Nat.{ℕ}
 use mathlib.Core.Path.{◌≡◌, refl, sym, ap, ◌∙◌}
 use mathlib.Core.Logic.{◌↔◌, ◌≢◌}
@@ -120,21 +121,17 @@ corresponds o h =
 abbrev read_number : Result Answer Refusal → ℕ
 read_number (Ok (Cold n k)) = 0
 read_number (Ok (Distance d n k)) = 0
-read_number (Err n) = n
+read_number (Err why) = number_of why
 
--- of a call that writes words
-abbrev words_number : Result ℕ Refusal → ℕ
-words_number (Ok n) = 0
-words_number (Err n) = n
+-- of a call that writes words, or of misses
+abbrev count_number : Result ℕ Refusal → ℕ
+count_number (Ok n) = 0
+count_number (Err why) = number_of why
 
--- of misses and of a share
-abbrev misses_number : Result ℕ Refusal → ℕ
-misses_number (Ok n) = 0
-misses_number (Err n) = n
-
+-- of a share
 abbrev share_number : Result HitShare Refusal → ℕ
 share_number (Ok s) = 0
-share_number (Err n) = n
+share_number (Err why) = number_of why
 
 -- an accepted read is not refused
 step-number : (o : FullSession) (x : ℕ) (r : Reuse) → read_number (full-reads.step_at o x r).answer ≡ 0
@@ -151,13 +148,13 @@ read_number_lem o ok x =
   where
     -- by the two conditions
     by : (c d : Bool) (r : FullStep) → read_number r.answer ≡ 0
-        → read_number (cond c (full-reads.refused o 8) (cond d (full-reads.refused o 9) r)).answer ≢ 7
+        → read_number (cond c (full-reads.refused o TooManyReads) (cond d (full-reads.refused o TooManyExtents) r)).answer ≢ 7
     by true d r e = λ q. omega arith
     by false true r e = λ q. omega arith
     by false false r e = λ q. omega (arith, e, q)
 
 -- words are written, or there are too few for them
-wrote-number : (w buffer : List ℕ) → words_number (wrote w buffer).answer ≢ 7
+wrote-number : (w buffer : List ℕ) → count_number (wrote w buffer).answer ≢ 7
 unfolding wrote
 wrote-number w buffer = by-test (leb (length w) (length buffer)) (λ t. rw t (λ q. omega arith)) (λ f. rw f (λ q. omega arith))
 
@@ -207,11 +204,11 @@ module _ (s : Session) (w : Wide s) where
     seven-summary = λ buffer.
         seven (summary_call s buffer).answer (wrote (full-calls.session_words (old_of s)) buffer).answer (Err Unsound)
         (λ ok. unfold summary_call full-calls.summary_call in rw (ok, ok-old ok)) (λ bad. unfold summary_call in rw bad)
-        (λ ok e. wrote-number (full-calls.session_words (old_of s)) buffer (ap words_number e));
+        (λ ok e. wrote-number (full-calls.session_words (old_of s)) buffer (ap count_number e));
     seven-misses = λ c.
         seven (misses_call s c) (Ok (misses_of (full-calls.session_words (old_of s)) c)) (Err Unsound)
         (λ ok. unfold misses_call full-calls.misses_call in rw (ok, ok-old ok)) (λ bad. unfold misses_call in rw bad)
-        (λ ok e. let q : ◌≡◌ {A = ℕ} 0 7 = ap misses_number e in omega arith);
+        (λ ok e. let q : ◌≡◌ {A = ℕ} 0 7 = ap count_number e in omega arith);
     seven-share = λ c.
         seven (share_call s c) (Ok (share_at (full-calls.session_words (old_of s)) c)) (Err Unsound)
         (λ ok. unfold share_call full-calls.share_call in rw (ok, ok-old ok)) (λ bad. unfold share_call in rw bad)

@@ -55,10 +55,10 @@ held size (refused n) = false
 held-seen : (size : ℕ) (a : Result Answer Refusal) → held size (seen_of a) ≡ held_by size a
 held-seen size (Ok (Cold n k)) = refl
 held-seen size (Ok (Distance d n k)) = refl
-held-seen size (Err n) = refl
+held-seen size (Err why) = refl
 
 -- so of a list of answers
-held-answers : (size : ℕ) (l : List (Result Result Answer Refusal Refusal)) → map (held size) (map seen_of l) ≡ map (held_by size) l
+held-answers : (size : ℕ) (l : List (Result Answer Refusal)) → map (held size) (map seen_of l) ≡ map (held_by size) l
 held-answers size [] = refl
 held-answers size (a ∷ l) = rw (held-answers size l, held-seen size a)
 

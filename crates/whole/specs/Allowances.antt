@@ -17,7 +17,7 @@ pub record Allowances (w : List ℕ) (m : ℕ) : Type 0 where
   -- the full list of misses is what the call for the misses answers at the sizes 0, 1, and so on to v
   pub listed : map (misses_call w) (from 0 (suc (extents_of w))) ≡ map Ok (misses_list w)
   -- the size answered is the first in that list with at most m, and as many words of H were read
-  pub answered : smallest_call w m ≡ Ok (record { size = smallest w m; words_read = (smallest w m) })
+  pub answered : smallest_call w m ≡ Ok (record { size = smallest w m; words_read = smallest w m })
   -- those of the distances from 1 to that size, in this order
   pub upwards : words_searched w m ≡ take (smallest w m) (counts_of w)
   -- the size is at most v

@@ -50,7 +50,7 @@ use Rattle.whole.specs.Cuttings.{Cutting, cut_parts, Follows, cut_distances, cut
 abbrev pub held_by : ℕ → Result Answer Refusal → Bool
 held_by c (Ok (Cold n k)) = within c (cold n)
 held_by c (Ok (Distance d n k)) = within c (at d)
-held_by c (Err n) = false
+held_by c (Err why) = false
 
 -- what holds of every run over the log t
 pub record Claims (t : List ℕ) : Type 0 where

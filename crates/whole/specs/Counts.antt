@@ -20,10 +20,10 @@ use Rattle.whole.specs.Runs.{session_after, answers_of, written}
 -- a watch after what it hears of a session: a refusal is no reading
 abbrev pub hears : Watch → Result Reading Refusal → Watch
 hears w (Ok r) = (noted_of w r).watch
-hears w (Err n) = w
+hears w (Err why) = w
 
 -- a watch after a list of a session's answers, each given to the watch that the last update left
-unfoldable pub watching : Watch → List (Result Result Answer Refusal Refusal) → Watch
+unfoldable pub watching : Watch → List (Result Answer Refusal) → Watch
 watching w [] = w
 watching w (a ∷ l) = watching (hears w (heard_of a)) l
 

@@ -14,7 +14,7 @@ pub record Rows : Type 0 where
   pub names : List ℕ
 
 -- what a call answers
-abbrev pub told_in : Rows → Call → Told Result Answer Refusal
+abbrev pub told_in : Rows → Call → Told (Result Answer Refusal)
 told_in r (read x) = reading (read_in r.words x).answer
 told_in r (name k) = moment (name_in r.words r.names k).answer
 told_in r (return_to k) = moment (return_in r.words r.names k).answer
@@ -31,7 +31,7 @@ rows_after r [] = r
 rows_after r (c ∷ cs) = rows_after (left_in r c) cs
 
 -- what these calls answer
-unfoldable pub told_by_in : Rows → List Call → List (Told Result Answer Refusal)
+unfoldable pub told_by_in : Rows → List Call → List (Told (Result Answer Refusal))
 told_by_in r [] = []
 told_by_in r (c ∷ cs) = told_in r c ∷ told_by_in (left_in r c) cs
 

@@ -22,7 +22,7 @@ pub data Told (A : Type 0) : Type 0 where
   moment : Result Unit Refusal → Told A
 
 -- a read's answer without its counts of sums and slots
-abbrev pub heard : Told Result Answer Refusal → Told Seen
+abbrev pub heard : Told (Result Answer Refusal) → Told Seen
 heard (reading a) = reading (seen_of a)
 heard (moment a) = moment a
 
@@ -38,7 +38,7 @@ pub record State : Type 0 where
   pub names : List ℕ
 
 -- what a call answers
-abbrev pub told : State → Call → Told Result Answer Refusal
+abbrev pub told : State → Call → Told (Result Answer Refusal)
 told s (read x) = reading (read_of s.session x).answer
 told s (name k) = moment (name_call s.session s.names k).answer
 told s (return_to k) = moment (return_call s.session s.names k).answer
@@ -55,7 +55,7 @@ state_after s [] = s
 state_after s (c ∷ cs) = state_after (left s c) cs
 
 -- what these calls answer
-unfoldable pub told_by : State → List Call → List (Told Result Answer Refusal)
+unfoldable pub told_by : State → List Call → List (Told (Result Answer Refusal))
 told_by s [] = []
 told_by s (c ∷ cs) = told s c ∷ told_by (left s c) cs
 

@@ -27,7 +27,7 @@ name_owed lent k = cond (is_name k) (cond (lies lent k) (Ok tt) (Err NoRoom)) (E
 -- what the names remember after it: k the log now; a refused naming leaves what they do
 abbrev pub noted : Result Unit Refusal → Memory → ℕ → (ℕ → Moment)
 noted (Ok tt) m k = λ j. cond (eqb j k) (log m.now) (m.under j)
-noted (Err n) m k = m.under
+noted (Err why) m k = m.under
 
 -- what a return to this must answer: 11 where nothing is remembered
 abbrev pub moment_owed : Moment → Result Unit Refusal

@@ -37,7 +37,7 @@ full_after o [] = o
 full_after o (x ∷ xs) = full_after (full-reads.read_of o x).session xs
 
 -- what it answers to them
-unfoldable pub full_answers : FullSession → List ℕ → List (Result Result Answer Refusal Refusal)
+unfoldable pub full_answers : FullSession → List ℕ → List (Result Answer Refusal)
 full_answers o [] = []
 full_answers o (x ∷ xs) = (full-reads.read_of o x).answer ∷ full_answers (full-reads.read_of o x).session xs
 

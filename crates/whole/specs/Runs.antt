@@ -1,6 +1,7 @@
 -- Runs of read calls, and what calls hand over.
 use Rattle.std.specs.Prelude.{ℕ, ◌+◌, ◌*◌, List, [], ◌∷◌, Bool, leb, length, take, Result, Ok, Err}
 use Rattle.reuse.specs.declared.refusals.Refusal.{Refusal}
+use Rattle.reuse.specs.Refusals.{number_of}
 use Rattle.reuse.specs.Lists.{firsts}
 use Rattle.reuse.specs.Lru.{cold, at}
 use Rattle.reuse.specs.Written.{word_of}
@@ -17,7 +18,7 @@ session_after s [] = s
 session_after s (x ∷ xs) = session_after (read_of s x).session xs
 
 -- what these calls answer
-unfoldable pub answers_of : Session → List ℕ → List (Result Result Answer Refusal Refusal)
+unfoldable pub answers_of : Session → List ℕ → List (Result Answer Refusal)
 answers_of s [] = []
 answers_of s (x ∷ xs) = (read_of s x).answer ∷ answers_of (read_of s x).session xs
 
@@ -25,20 +26,20 @@ answers_of s (x ∷ xs) = (read_of s x).answer ∷ answers_of (read_of s x).sess
 abbrev pub written : Result Answer Refusal → ℕ
 written (Ok (Cold n k)) = word_of (cold n)
 written (Ok (Distance d n k)) = word_of (at d)
-written (Err n) = 0
+written (Err why) = 0
 
 -- a read joins those accepted unless it was refused
 abbrev pub keep : Result Answer Refusal → ℕ → List ℕ → List ℕ
 keep (Ok (Cold n k)) x xs = x ∷ xs
 keep (Ok (Distance d n k)) x xs = x ∷ xs
-keep (Err n) x xs = xs
+keep (Err why) x xs = xs
 
 -- the reads of these calls that were accepted
 unfoldable pub accepted : Session → List ℕ → List ℕ
 accepted s [] = []
 accepted s (x ∷ xs) = keep (read_of s x).answer x (accepted (read_of s x).session xs)
 
--- what a call gives, or nothing but its refusal
+-- what a call gives, or nothing but the number of its refusal
 pub data Reply (A : Type 0) : Type 0 where
   gives : A → Reply A
   refused : ℕ → Reply A
@@ -50,7 +51,7 @@ Outcome = Reply (List ℕ)
 -- by the answer and the buffer
 abbrev pub outcome_of : Result ℕ Refusal → List ℕ → Outcome
 outcome_of (Ok n) buffer = gives (take n buffer)
-outcome_of (Err n) buffer = refused n
+outcome_of (Err why) buffer = refused (number_of why)
 
 -- of a call
 abbrev pub outcome : Wrote → Outcome

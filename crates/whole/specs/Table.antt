@@ -172,7 +172,9 @@ pub record Table : Type 0 where
   pub between-defined : (cache_misses 1 (4 ∷ 5 ∷ 4 ∷ []) ≡ 3) × (cache_misses 1 (4 ∷ 4 ∷ []) ≡ 1)
   -- the smallest cache for 7, 6, 5, 4, 3 and 2 misses on the seven reads: 0, 1, 2, 2, 3, each with as many words of H read, and 12;
   -- the caches of the sizes 0 to 3 miss 7, 6, 4 and 3 times
-  pub allowances-called : map (smallest_call seven_words) (7 ∷ 6 ∷ 5 ∷ 4 ∷ 3 ∷ 2 ∷ []) ≡ Ok (record { size = 0; words_read = 0 }) ∷ Ok (record { size = 1; words_read = 1 }) ∷ Ok (record { size = 2; words_read = 2 }) ∷ Ok (record { size = 2; words_read = 2 }) ∷ Ok (record { size = 3; words_read = 3 }) ∷ Err BelowCold ∷ []
+  pub allowances-called : map (smallest_call seven_words) (7 ∷ 6 ∷ 5 ∷ 4 ∷ 3 ∷ 2 ∷ [])
+      ≡ Ok (record { size = 0; words_read = 0 }) ∷ Ok (record { size = 1; words_read = 1 }) ∷ Ok (record { size = 2; words_read = 2 })
+      ∷ Ok (record { size = 2; words_read = 2 }) ∷ Ok (record { size = 3; words_read = 3 }) ∷ Err BelowCold ∷ []
   pub allowances-defined : map (λ c. cache_misses c seven) (from 0 4) ≡ 7 ∷ 6 ∷ 4 ∷ 3 ∷ []
   -- for 4 misses on 1 1 2 3 1: 1, the first of two sizes with as many
   pub level-called : smallest_call (summary_of level) 4 ≡ Ok (record { size = 1; words_read = 1 })
