@@ -15,7 +15,7 @@ use Rattle.reuse.specs.Lru.{cold, at}
 use Rattle.reuse.specs.Limits.{max_reads, max_extents, slot_count, levels}
 use Rattle.session_rights.specs.Rights.{marks_from}
 use Rattle.session_marks.specs.declared.Found.{Found}
-use Rattle.session_marks.specs.Marks.{slot_from, looked_below, found_in, Searched}
+use Rattle.session_marks.specs.Marks.{slot_from, slot_at, looked_below, found_in, Searched}
 use Rattle.session_refusals.specs.Refusals.{overfull, refusal_of}
 use Rattle.session_calls.specs.Sessions as full
 use Rattle.session_calls.specs.Sessions.{FullSession}
@@ -30,7 +30,7 @@ use Rattle.reuse.proofs.Lists.{by-test}
 use Rattle.reuse.proofs.Depth.{depth-absent}
 use Rattle.reuse.proofs.Sums.{at-le-sum, sum_drop, sum-drop-le, free-at}
 use Rattle.session_marks.proofs.Marks.{row-tidy, slot-absent, slot-marked}
-use Rattle.session_marks.proofs.Search.{found-slot}
+use Rattle.session_marks.proofs.Search.{slot-nothing, slot-is, found-slot}
 use Rattle.session_calls.proofs.Sound.{Kept, length-stack, kept-wide, kept-few}
 use Rattle.session_calls.proofs.Taken.{Roomed, room-made, room-there, stack-mem, slot-below, slot-depth, kept-gathered}
 use Rattle.session_calls.proofs.Looked.{searched, count-old, count-absent}
@@ -38,7 +38,7 @@ use Rattle.session.proofs.Corresponds.{Facts, sound-facts, tested, old-new, old-
 
 -- what the search for x comes to
 abbrev pub search_of : Session → ℕ → Found
-search_of s x = record { slot = slot_of s x; looked = length (looked_at s x) }
+search_of s x = record { slot = slot_at (slot_of s x); looked = length (looked_at s x) }
 
 -- an extent of the old session has a slot exactly where it is in the stack
 module _ (o : FullSession) (k : Kept o) (x : ℕ) where
@@ -103,7 +103,7 @@ module _ (s σ : Session) (m : Ready s σ) where
       let wide = (subst (λ (r : Session). Wide r) m.new (new-wide (old_of σ) kept)).rights-wide in
       found-slot σ.slots σ.count σ.rights σ.next x wide
       (subst (λ (l : List ℕ). Searched σ.slots l σ.next) (sym worked) (searched (old_of σ) kept))
-      ∙ ap (λ (l : List ℕ). record { slot = slot_from l σ.slots x; looked = length (looked_below σ.slots l x σ.next) }) worked
+      ∙ ap (λ (l : List ℕ). record { slot = slot_at (slot_from l σ.slots x); looked = length (looked_below σ.slots l x σ.next) }) worked
 
   -- the mark of a known extent can move
   movable : (x : ℕ) → σ.reads < max_reads → mem x (full.stack_of (old_of σ)) ≡ true → Movable σ x (slot_of σ x) (length (looked_at σ x))
@@ -185,8 +185,8 @@ module _ (s : Session) (w : Wide s) (x : ℕ) where
 
   -- σ is s with room, and g is what the search for x comes to in it
   module _ (a : Accepted s x) (σ : Session) (g : Found) (m : Ready s σ) (is : g ≡ search_of σ x) where
-    -- the slot of x
-    at_slot : g.slot ≡ slot_of σ x
+    -- the slot of x, where it has one
+    at_slot : g.slot ≡ slot_at (slot_of σ x)
     at_slot = ap (λ (r : Found). r.slot) is
 
     -- the reads are within the limit
@@ -198,27 +198,32 @@ module _ (s : Session) (w : Wide s) (x : ℕ) where
     unfolding read_of full-reads.read_of
     taken_is = rw (a.ok, ok-old a.ok, ne_eqb s.reads max_reads a.short, a.few, m.roomed.is)
 
-    -- x is in the stack where it has a slot
-    known : (g.slot ≡ slot_count → ⊥) → mem x (full.stack_of (old_of σ)) ≡ true
-    known h = is_held (old_of σ) (kept s σ m) x (λ e. h (at_slot ∙ e))
+    -- x is not in the stack where it has no slot
+    absent : g.slot ≡ None → mem x (full.stack_of (old_of σ)) ≡ false
+    absent e = not-held (old_of σ) (kept s σ m) x (slot-nothing (slot_of σ x) (sym at_slot ∙ e))
 
-    -- and is not where it has none
-    absent : g.slot ≡ slot_count → mem x (full.stack_of (old_of σ)) ≡ false
-    absent e = not-held (old_of σ) (kept s σ m) x (sym at_slot ∙ e)
+    module _ (k : ℕ) (here : g.slot ≡ Some k) where
+      -- k is the slot of x
+      this : (slot_of σ x ≡ k) × (slot_of σ x ≡ slot_count → ⊥)
+      this = slot-is (slot_of σ x) k (sym at_slot ∙ here)
 
-    -- the mark of a known extent can move
-    pub moves : (g.slot ≡ slot_count → ⊥) → Movable σ x g.slot g.looked
-    moves h = rw is (movable s σ m x left (known h))
+      -- x is in the stack
+      known : mem x (full.stack_of (old_of σ)) ≡ true
+      known = is_held (old_of σ) (kept s σ m) x this.1
 
-    -- a read of a known extent
-    pub known-way : (g.slot ≡ slot_count → ⊥) → new_step (step_at (old_of σ) x (at (suc (sum (drop (suc g.slot) (full.marks (old_of σ))))))) ≡ read_of s x
-    known-way h =
-        let old : taken (old_of σ) x ≡ step_at (old_of σ) x (at (suc (sum (drop (suc (slot_of σ x)) (full.marks (old_of σ)))))) =
-        unfold taken in rw (slot-depth (old_of σ) (kept s σ m) x (known h)) in
-        rw at_slot (ap new_step (sym old) ∙ taken_is)
+      -- the mark of a known extent can move
+      pub moves : Movable σ x k g.looked
+      moves = rw (sym this.0, is) (movable s σ m x left known)
+
+      -- a read of a known extent
+      pub known-way : new_step (step_at (old_of σ) x (at (suc (sum (drop (suc k) (full.marks (old_of σ))))))) ≡ read_of s x
+      known-way =
+          let old : taken (old_of σ) x ≡ step_at (old_of σ) x (at (suc (sum (drop (suc (slot_of σ x)) (full.marks (old_of σ)))))) =
+          unfold taken in rw (slot-depth (old_of σ) (kept s σ m) x known) in
+          rw (sym this.0) (ap new_step (sym old) ∙ taken_is)
 
     -- a new extent can have a mark
-    pub enters : g.slot ≡ slot_count → Enterable σ g.looked
+    pub enters : g.slot ≡ None → Enterable σ g.looked
     unfolding too_many
     enters e =
         let new : mem x (full.stack_of (old_of s)) ≡ false = ap (mem x) (sym m.roomed.stacked) ∙ absent e in
@@ -233,7 +238,7 @@ module _ (s : Session) (w : Wide s) (x : ℕ) where
         }
 
     -- a read of a new extent
-    pub cold-way : g.slot ≡ slot_count → new_step (step_at (old_of σ) x (cold (suc (full.extents (old_of σ))))) ≡ read_of s x
+    pub cold-way : g.slot ≡ None → new_step (step_at (old_of σ) x (cold (suc (full.extents (old_of σ))))) ≡ read_of s x
     cold-way e =
         let new : taken (old_of σ) x ≡ step_at (old_of σ) x (cold (suc (full.extents (old_of σ)))) =
         unfold taken in ap (step_at (old_of σ) x) (depth-absent x (full.stack_of (old_of σ)) (absent e) ∙ ap (λ (n : ℕ). cold (suc n)) (length-stack (old_of σ) (kept s σ m))) in

@@ -182,10 +182,10 @@ impl Session {
         }
         let below = self.next as usize;
         let marked = self.count;
-        let f = session_marks::find(&self.slots, marked, &self.rights, below, extent);
-        if f.slot == SLOTS {
-            return self.entered(extent, f.looked);
-        }
-        self.moved(extent, f.slot, f.looked)
+        let found = session_marks::find(&self.slots, marked, &self.rights, below, extent);
+        let Some(slot) = found.slot else {
+            return self.entered(extent, found.looked);
+        };
+        self.moved(extent, slot, found.looked)
     }
 }

@@ -7,13 +7,14 @@ use Prim.Native.Nat.{ℕ, zero, suc, ◌+◌, ◌-◌, ◌≤◌, ◌<◌}
 use native.Mathlib.Omega.{arith}
 use native.Mathlib.Nat.{zero-add}
 use native.Mathlib.Decide.{ℕ_discrete}
+use Rattle.std.specs.Prelude.{Option, Some, None}
 use lib.Dec.{eqb}
 use lib.ListN.{length, get_or}
 use borrow.Author.Tests.{eq-eqb, ne_eqb, eqb-true, eqb-false, le-leb, lt-leb}
 use Rattle.reuse.specs.Limits.{slot_count, right_count, levels}
 use Rattle.session_rights.specs.Rights.{marks_from}
 use Rattle.session_marks.specs.declared.Found.{Found}
-use Rattle.session_marks.specs.Marks.{slot_from, paired, is_mark_of, last_of, looked_of, looked_below, holds, found_in, Searched}
+use Rattle.session_marks.specs.Marks.{slot_from, slot_at, paired, is_mark_of, last_of, looked_of, looked_below, holds, found_in, Searched}
 use Rattle.reuse.proofs.Lists.{clash, by-test, both}
 use Rattle.reuse.proofs.Sums.{free-at}
 use Rattle.session_marks.proofs.Marks.{Row, tidy-row, row-held, slot-found, slot-none}
@@ -30,22 +31,38 @@ pair-wide xs ms h =
     let p = both (eqb (length xs) slot_count) (eqb (length ms) slot_count) h in
     (eqb-true (length xs) slot_count p.0, eqb-true (length ms) slot_count p.1)
 
+-- what stands for none is the number of slots
+pub slot-nothing : (n : ℕ) → slot_at n ≡ None → n ≡ slot_count
+slot-nothing n e =
+    by-test (eqb n slot_count) (λ t. eqb-true n slot_count t) (λ f. let q : ◌≡◌ {A = Option ℕ} (Some n) None = simp f at e in absurd (cc))
+
+-- and any other number is a slot
+pub slot_other : (n : ℕ) → (n ≡ slot_count → ⊥) → slot_at n ≡ Some n
+slot_other n h = simp (ne_eqb n slot_count h)
+
+-- what stands for a slot is that one
+pub slot-is : (n k : ℕ) → slot_at n ≡ Some k → (n ≡ k) × (n ≡ slot_count → ⊥)
+slot-is n k e =
+    by-test (eqb n slot_count)
+    (λ t. let q : ◌≡◌ {A = Option ℕ} None (Some k) = simp t at e in absurd (cc))
+    (λ f. let q : ◌≡◌ {A = Option ℕ} (Some n) (Some k) = simp f at e in (cc, eqb-false n slot_count f))
+
 -- what a search comes to that has looked at n slots and goes on below i
 abbrev pub going_on : (ℕ → Bool) → ℕ → ℕ → Found
-going_on test i n = record { slot = last_of test i; looked = n + length (looked_of test i) }
+going_on test i n = record { slot = slot_at (last_of test i); looked = n + length (looked_of test i) }
 
 -- nothing found, after so many slots
 abbrev pub nothing : ℕ → Found
-nothing n = record { slot = slot_count; looked = n }
+nothing n = record { slot = None; looked = n }
 
 module _ (test : ℕ → Bool) where
   module _ (i n : ℕ) (l : 0 < i) where
     -- the slot below i passes, or the search goes on below it
-    step : going_on test i n ≡ cond (test (i - 1)) (record { slot = i - 1; looked = n + 1 }) (going_on test (i - 1) (n + 1))
+    step : going_on test i n ≡ cond (test (i - 1)) (record { slot = slot_at (i - 1); looked = n + 1 }) (going_on test (i - 1) (n + 1))
     unfolding last_of looked_of
     step = by i refl
       where
-        by : (j : ℕ) → j ≡ i → going_on test j n ≡ cond (test (j - 1)) (record { slot = j - 1; looked = n + 1 }) (going_on test (j - 1) (n + 1))
+        by : (j : ℕ) → j ≡ i → going_on test j n ≡ cond (test (j - 1)) (record { slot = slot_at (j - 1); looked = n + 1 }) (going_on test (j - 1) (n + 1))
         by zero e = absurd (omega arith)
         by (suc j) e =
             let b : suc j - 1 ≡ j = omega arith in
@@ -53,8 +70,8 @@ module _ (test : ℕ → Bool) where
             rw b (by-test (test j) (λ t. simp t) (λ f. simp (f, m)))
 
     -- it is the one
-    pub search-hit : test (i - 1) ≡ true → going_on test i n ≡ record { slot = i - 1; looked = n + 1 }
-    search-hit t = step ∙ simp t
+    pub search-hit : i ≤ slot_count → test (i - 1) ≡ true → going_on test i n ≡ record { slot = Some (i - 1); looked = n + 1 }
+    search-hit h t = step ∙ simp t (ap (λ (o : Option ℕ). record { slot = o; looked = n + 1 }) (slot_other (i - 1) (λ e. omega arith)))
 
     -- it is not
     pub search-miss : test (i - 1) ≡ false → going_on test i n ≡ going_on test (i - 1) (n + 1)
@@ -96,13 +113,13 @@ module _ (xs : List ℕ) (count : ℕ) (R : List ℕ) (next x : ℕ) where
 
   -- in a session's rows
   found-walk : length xs ≡ slot_count → length R ≡ right_count → next ≤ slot_count
-      → found_in xs count R next x ≡ record { slot = last_of test_of next; looked = length (looked_of test_of next) }
+      → found_in xs count R next x ≡ record { slot = slot_at (last_of test_of next); looked = length (looked_of test_of next) }
   unfolding found_in
   found-walk w v l = simp (eq-eqb (length xs) slot_count w, eq-eqb (length R) right_count v, le-leb next slot_count l)
 
   -- the search goes on from there, with no slot looked at
   pub found-pair : length xs ≡ slot_count → length R ≡ right_count → next ≤ slot_count → found_in xs count R next x ≡ going_on (holds xs (marks_from levels count R) x) next 0
-  found-pair w v l = found-walk w v l ∙ ap (λ (n : ℕ). record { slot = last_of test_of next; looked = n }) (sym (zero-add (length (looked_of test_of next))))
+  found-pair w v l = found-walk w v l ∙ ap (λ (n : ℕ). record { slot = slot_at (last_of test_of next); looked = n }) (sym (zero-add (length (looked_of test_of next))))
 
   -- in slots of another length, over right-hand sums of another, or below a slot that there is not
   pub found_none : (length xs ≡ slot_count → ⊥) ⊎ ((length xs ≡ slot_count) × (length R ≡ right_count → ⊥)) ⊎ ((length xs ≡ slot_count) × (length R ≡ right_count) × (slot_count < next))
@@ -162,7 +179,7 @@ module _ (xs ms : List ℕ) (next x : ℕ) where
 -- in the rows of a session whose marks are these, it finds the slot of x, and looks at the slots on the way there
 pub found-slot : (xs : List ℕ) (count : ℕ) (R : List ℕ) (next x : ℕ) → length R ≡ right_count → Searched xs (marks_from levels count R) next
     → found_in xs count R next x
-    ≡ record { slot = slot_from (marks_from levels count R) xs x; looked = length (looked_below xs (marks_from levels count R) x next) }
+    ≡ record { slot = slot_at (slot_from (marks_from levels count R) xs x); looked = length (looked_below xs (marks_from levels count R) x next) }
 found-slot xs count R next x w s =
     let ms = marks_from levels count R in
     let e = search-same (holds xs ms x) (is_mark_of xs ms x) next (λ i l. same_test xs ms next x s i (omega (arith, s.low))) in

@@ -1,5 +1,5 @@
 -- Slots beside their marks: the marked ones, the slot of an extent, and the marked ones gathered.
-use Rattle.std.specs.Prelude.{ℕ, zero, suc, ◌≤◌, ◌≡◌, List, [], ◌∷◌, Bool, true, cond, not, ◌&&◌, ◌||◌, eqb, leb, length, drop, get_or}
+use Rattle.std.specs.Prelude.{ℕ, zero, suc, ◌≤◌, ◌≡◌, List, [], ◌∷◌, Bool, true, Option, Some, None, cond, not, ◌&&◌, ◌||◌, eqb, leb, length, drop, get_or}
 use Rattle.reuse.specs.Limits.{slot_count, right_count, levels}
 use Rattle.reuse.specs.Lists.{distinct, sum}
 use Rattle.session_sums.specs.Sums.{filled}
@@ -50,13 +50,17 @@ looked_below slots marks x n = looked_of (is_mark_of slots marks x) n
 abbrev pub holds : List ℕ → List ℕ → ℕ → ℕ → Bool
 holds slots marks x i = eqb (get_or slots i 0) x && (not (eqb x 0) || eqb (get_or marks i 0) 1)
 
--- the search for x below next in a session's rows: the slot, and how many were looked at; in other rows, or below a slot
+-- a slot; none for the number of slots
+abbrev pub slot_at : ℕ → Option ℕ
+slot_at k = cond (eqb k slot_count) None (Some k)
+
+-- the search for x below next in a session's rows: the slot, where there is one, and how many were looked at; in other rows, or below a slot
 -- that there is not, none is looked at
 unfoldable pub found_in : List ℕ → ℕ → List ℕ → ℕ → ℕ → Found
 found_in slots count rights next x =
     cond (eqb (length slots) slot_count && eqb (length rights) right_count && leb next slot_count)
-    (record { slot = last_of (holds slots (marks_from levels count rights) x) next; looked = length (looked_of (holds slots (marks_from levels count rights) x) next) })
-    (record { slot = slot_count; looked = 0 })
+    (record { slot = slot_at (last_of (holds slots (marks_from levels count rights) x) next); looked = length (looked_of (holds slots (marks_from levels count rights) x) next) })
+    (record { slot = None; looked = 0 })
 
 -- the marked slots of a session's rows moved, in order, to the first slots, 0 in the others; no marked slots in other rows
 unfoldable pub gathered_row : List ℕ → List ℕ → List ℕ

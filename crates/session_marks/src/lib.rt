@@ -6,22 +6,22 @@ ghost use Rattle.session_marks.specs.Marks.{paired, found_in, gathered_row};
 
 use reuse::{RIGHTS, SLOTS};
 
-// What a search came to: the slot, and how many slots were looked at.
+// What a search came to: the slot, where there is one, and how many slots were looked at.
 #[derive(Drop)]
 pub struct Found {
-    pub slot: usize,
+    pub slot: Option<usize>,
     pub looked: u32,
 }
 
-// The slot below next that holds x and is marked, or the number of slots, and how many slots were looked at: the newest
-// first, down to that one. An unmarked slot of a sound session holds 0, so only for 0 a mark is worked out. In rows of
-// another length none is looked at.
+// The slot below next that holds x and is marked, where there is one, and how many slots were looked at: the newest first,
+// down to that one. An unmarked slot of a sound session holds 0, so only for 0 a mark is worked out. In rows of another
+// length none is looked at.
 pub fn find(slots: &[u32], count: u32, rights: &[u32], next: usize, x: u32) -> Found
     ensures { result ≡ found_in slots.now count rights.now next x }
 {
     if slots.len() != SLOTS || rights.len() != RIGHTS || SLOTS < next {
         return Found {
-            slot: SLOTS,
+            slot: None,
             looked: 0,
         };
     }
@@ -31,18 +31,21 @@ pub fn find(slots: &[u32], count: u32, rights: &[u32], next: usize, x: u32) -> F
         if slots[i] == x {
             let other = x != 0;
             if other {
-                return Found { slot: i, looked };
+                return Found {
+                    slot: Some(i),
+                    looked,
+                };
             }
             let marked = session_points::mark_at(count, rights, i) == 1;
             if marked {
-                return Found { slot: i, looked };
+                return Found {
+                    slot: Some(i),
+                    looked,
+                };
             }
         }
     }
-    Found {
-        slot: SLOTS,
-        looked,
-    }
+    Found { slot: None, looked }
 }
 
 // Whether the rows are as long as a session's slots.

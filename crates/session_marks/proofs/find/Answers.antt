@@ -32,12 +32,12 @@ pub returns-then-other : goal.returns-then-other
 returns-then-other c =
     let l = c.loop-i in
     let a = c.args in
-    sym (search-hit _ l.i l.looked (omega arith) (holds-some a.slots.now (marks_from levels a.count a.rights.now) a.x (l.i - 1) c.if-slots-i.true c.if-other.true)) ∙ l.invariant.0
+    sym (search-hit _ l.i l.looked (omega arith) (omega (arith, l.invariant.1)) (holds-some a.slots.now (marks_from levels a.count a.rights.now) a.x (l.i - 1) c.if-slots-i.true c.if-other.true)) ∙ l.invariant.0
 
 pub returns-then-marked : goal.returns-then-marked
 returns-then-marked c =
     let l = c.loop-i in
-    sym (search-hit _ l.i l.looked (omega arith) (tested (goal.at.returns-then-marked c).After-mark_at-marked ∙ eq-eqb _ 1 c.if-marked.true)) ∙ l.invariant.0
+    sym (search-hit _ l.i l.looked (omega arith) (omega (arith, l.invariant.1)) (tested (goal.at.returns-then-marked c).After-mark_at-marked ∙ eq-eqb _ 1 c.if-marked.true)) ∙ l.invariant.0
 
 pub loop-i-preserved-else-marked : goal.loop-i-preserved-else-marked
 loop-i-preserved-else-marked c =

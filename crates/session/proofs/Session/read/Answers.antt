@@ -7,7 +7,7 @@ use Rattle.session.proofs.Corresponds.{Facts, sound-facts}
 use Rattle.session.proofs.Ways.{Ready, ready_made, ready-there, search_of, found, Accepted, gatherable, lent-refusal, refused-way, accepts, moves, known-way, enters, cold-way}
 use borrow.Author.Rules.{rules}
 use Rattle.session.proofs.Session.read.Goals as goal
-use Rattle.session.proofs.Session.read.Goals.{After-find-f, In_default, Joined-filled, Start, then-filled, else-filled}
+use Rattle.session.proofs.Session.read.Goals.{After-find-found, In_default, Joined-filled, Start, then-filled, else-filled}
 
 -- the widths of the session's arrays
 wide : (c : Start) → Wide c.args.self
@@ -31,8 +31,8 @@ made c f =
     ]
 
 -- the search finds the extent's slot
-searched : (c : After-find-f) → Ready c.args.self c.if-filled.self → c.find-f.result ≡ search_of c.if-filled.self c.args.extent
-searched c r = c.find-f.ensures ∙ found c.args.self c.if-filled.self r c.args.extent
+searched : (c : After-find-found) → Ready c.args.self c.if-filled.self → c.find-found.result ≡ search_of c.if-filled.self c.args.extent
+searched c r = c.find-found.ensures ∙ found c.args.self c.if-filled.self r c.args.extent
 
 pub returns-in-Some : goal.returns-in-Some
 returns-in-Some c = c.refused.ensures ∙ refused-way _ (wide (goal.at.returns-in-Some c).Start) _ _ (sym c.in-Some.is ∙ c.refusal-refusal.ensures ∙ lent-refusal _ _ c.fields.ensures _)
@@ -52,25 +52,25 @@ entered-requires c =
     let b = goal.at.entered-requires c in
     let w = wide b.Start in
     let r = made b.Joined-filled (facts b.In_default w) in
-    enters _ w _ (accepted b.In_default w) _ _ r (searched b.After-find-f r) c.if-f-eq-SLOTS.true
+    enters _ w _ (accepted b.In_default w) _ _ r (searched b.After-find-found r) c.in_default-slot.is
 
-pub returns-then-f-eq-SLOTS : goal.returns-then-f-eq-SLOTS
-returns-then-f-eq-SLOTS c =
-    let b = goal.at.returns-then-f-eq-SLOTS c in
+pub returns-in_default-slot : goal.returns-in_default-slot
+returns-in_default-slot c =
+    let b = goal.at.returns-in_default-slot c in
     let w = wide b.Start in
     let r = made b.Joined-filled (facts b.In_default w) in
-    c.entered.ensures ∙ cold-way _ w _ (accepted b.In_default w) _ _ r (searched b.After-find-f r) c.if-f-eq-SLOTS.true
+    c.entered.ensures ∙ cold-way _ w _ (accepted b.In_default w) _ _ r (searched b.After-find-found r) c.in_default-slot.is
 
 pub moved-requires : goal.moved-requires
 moved-requires c =
     let b = goal.at.moved-requires c in
     let w = wide b.Start in
     let r = made b.Joined-filled (facts b.In_default w) in
-    moves _ w _ (accepted b.In_default w) _ _ r (searched b.After-find-f r) c.if-f-eq-SLOTS.false
+    moves _ w _ (accepted b.In_default w) _ _ r (searched b.After-find-found r) _ c.in-Some-slot.is
 
 pub returns : goal.returns
 returns c =
     let b = goal.at.returns c in
     let w = wide b.Start in
     let r = made b.Joined-filled (facts b.In_default w) in
-    c.moved.ensures ∙ known-way _ w _ (accepted b.In_default w) _ _ r (searched b.After-find-f r) c.if-f-eq-SLOTS.false
+    c.moved.ensures ∙ known-way _ w _ (accepted b.In_default w) _ _ r (searched b.After-find-found r) _ c.in-Some-slot.is
