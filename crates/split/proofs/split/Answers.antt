@@ -53,9 +53,6 @@ search-requires c =
     let (s, n, f, e) = known (goal.at.search-requires c).After-total in
     record { formed = f; few = omega arith; fits = omega arith; small = s; room = omega arith }
 
-pub shape_of-shares : goal.shape_of-shares
-shape_of-shares c = c.search.auto.shares
-
 pub returns : goal.returns
 unfolding divided
 returns c =

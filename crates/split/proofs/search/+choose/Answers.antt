@@ -25,75 +25,9 @@ long t c =
 pub returns-then-leasts-eq0 : goal.returns-then-leasts-eq0
 returns-then-leasts-eq0 t c = λ ss store h. chosen_none ss store _ _ _ _ _ h (omega arith)
 
-pub bounds-leasts-0 : goal.bounds-leasts-0
-bounds-leasts-0 t c = omega arith
-
-pub overflow_cast-least : goal.overflow_cast-least
-overflow_cast-least t c = omega (arith, c.type_inv.leasts 0)
-
-pub slice_bounds-share_at-count : goal.slice_bounds-share_at-count
-slice_bounds-share_at-count t c = omega arith
-
-pub slice_bounds-share_at-start : goal.slice_bounds-share_at-start
-slice_bounds-share_at-start t c = omega arith
-
-pub slice_bounds-share_at-end : goal.slice_bounds-share_at-end
-slice_bounds-share_at-end t c = omega arith
-
-pub offset_bounds-table-left : goal.offset_bounds-table-left
-offset_bounds-table-left t c = omega arith
-
-pub bounds-table-left : goal.bounds-table-left
-bounds-table-left t c = omega arith
-
 pub share_at-share-requires : goal.share_at-share-requires
 share_at-share-requires t c =
     seeking c.args.left c.args.costs.now c.args.table.now c.args.shares.now c.requires.0 c.requires.1 c.args.leasts.now c.requires.2 (omega arith)
-
-pub overflow_cast-shares : goal.overflow_cast-shares
-overflow_cast-shares t c = omega arith
-
-pub bounds-shares-0 : goal.bounds-shares-0
-bounds-shares-0 t c = omega arith
-
-pub slice_bounds-choose-count : goal.slice_bounds-choose-count
-slice_bounds-choose-count t c = omega arith
-
-pub slice_bounds-choose-start : goal.slice_bounds-choose-start
-slice_bounds-choose-start t c = omega arith
-
-pub slice_bounds-choose-end : goal.slice_bounds-choose-end
-slice_bounds-choose-end t c = omega arith
-
-pub overflow_sub-left : goal.overflow_sub-left
-overflow_sub-left t c = omega arith
-
-pub slice_bounds-choose-count-2 : goal.slice_bounds-choose-count-2
-slice_bounds-choose-count-2 t c = omega arith
-
-pub slice_bounds-choose-start-2 : goal.slice_bounds-choose-start-2
-slice_bounds-choose-start-2 t c = omega arith
-
-pub slice_bounds-choose-end-2 : goal.slice_bounds-choose-end-2
-slice_bounds-choose-end-2 t c = omega arith
-
-pub slice_bounds-choose-count-3 : goal.slice_bounds-choose-count-3
-slice_bounds-choose-count-3 t c = omega arith
-
-pub slice_bounds-choose-start-3 : goal.slice_bounds-choose-start-3
-slice_bounds-choose-start-3 t c = omega arith
-
-pub slice_bounds-choose-end-3 : goal.slice_bounds-choose-end-3
-slice_bounds-choose-end-3 t c = omega arith
-
-pub slice_bounds-choose-count-4 : goal.slice_bounds-choose-count-4
-slice_bounds-choose-count-4 t c = word t (goal.at.slice_bounds-choose-count-4 t c).After-share_at-share
-
-pub slice_bounds-choose-start-4 : goal.slice_bounds-choose-start-4
-slice_bounds-choose-start-4 t c = word t (goal.at.slice_bounds-choose-start-4 t c).After-share_at-share
-
-pub slice_bounds-choose-end-4 : goal.slice_bounds-choose-end-4
-slice_bounds-choose-end-4 t c = omega arith
 
 pub choose-requires : goal.choose-requires
 choose-requires t c =

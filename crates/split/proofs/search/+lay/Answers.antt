@@ -61,36 +61,6 @@ slice_bounds-lay-count t c = inside t c
 pub slice_bounds-lay-start : goal.slice_bounds-lay-start
 slice_bounds-lay-start t c = inside t c
 
-pub slice_bounds-lay-end : goal.slice_bounds-lay-end
-slice_bounds-lay-end t c = omega arith
-
-pub slice_bounds-lay-count-2 : goal.slice_bounds-lay-count-2
-slice_bounds-lay-count-2 t c = omega (arith, some t (goal.at.slice_bounds-lay-count-2 t c).After-own_words-own)
-
-pub slice_bounds-lay-start-2 : goal.slice_bounds-lay-start-2
-slice_bounds-lay-start-2 t c = omega (arith, some t (goal.at.slice_bounds-lay-start-2 t c).After-own_words-own)
-
-pub slice_bounds-lay-end-2 : goal.slice_bounds-lay-end-2
-slice_bounds-lay-end-2 t c = omega arith
-
-pub slice_bounds-lay-count-3 : goal.slice_bounds-lay-count-3
-slice_bounds-lay-count-3 t c = omega (arith, some t (goal.at.slice_bounds-lay-count-3 t c).After-own_words-own, c.requires.costs-long)
-
-pub slice_bounds-lay-start-3 : goal.slice_bounds-lay-start-3
-slice_bounds-lay-start-3 t c = omega (arith, some t (goal.at.slice_bounds-lay-start-3 t c).After-own_words-own, c.requires.costs-long)
-
-pub slice_bounds-lay-end-3 : goal.slice_bounds-lay-end-3
-slice_bounds-lay-end-3 t c = omega arith
-
-pub slice_bounds-lay-count-4 : goal.slice_bounds-lay-count-4
-slice_bounds-lay-count-4 t c = omega (arith, c.requires.table-long)
-
-pub slice_bounds-lay-start-4 : goal.slice_bounds-lay-start-4
-slice_bounds-lay-start-4 t c = omega (arith, c.requires.table-long)
-
-pub slice_bounds-lay-end-4 : goal.slice_bounds-lay-end-4
-slice_bounds-lay-end-4 t c = omega arith
-
 pub lay-others-requires : goal.lay-others-requires
 lay-others-requires t c =
     let n = c.own_words-own in (
@@ -98,20 +68,11 @@ lay-others-requires t c =
       rw n.ensures (rest-laying _ _ _ _ _ c.requires (some t (goal.at.lay-others-requires t c).After-own_words-own)),
     )
 
-pub bounds-leasts-0 : goal.bounds-leasts-0
-bounds-leasts-0 t c = omega arith
-
-pub overflow_cast-least : goal.overflow_cast-least
-overflow_cast-least t c = omega (arith, c.type_inv.leasts 0)
-
 pub overflow_add-low : goal.overflow_add-low
 overflow_add-low t c = record { fits = omega (arith, fits t c, c.requires.small) }
 
 pub slice_bounds-enter-end : goal.slice_bounds-enter-end
 slice_bounds-enter-end t c = sym (length-take-le _ _ (inside t (goal.at.slice_bounds-enter-end t c).After-own_words-own))
-
-pub enter-requires : goal.enter-requires
-enter-requires t c = omega arith
 
 pub shape_of-costs : goal.shape_of-costs
 shape_of-costs t c =
