@@ -9,6 +9,5 @@ ghost use Rattle.capi_answers.specs.Answers.{sized, words_left};
 pub extern "C" fn jemqolu_smallest(words: &[u32], misses: u32, read: &mut u32) -> i64
     ensures { (result ≡ sized (smallest_call words.now misses)) × (read.new ≡ words_left (smallest_call words.now misses) read.old) }
 {
-    let a = allowance::smallest(words, misses);
-    capi_answers::size(a, read)
+    capi_answers::size(allowance::smallest(words, misses), read)
 }

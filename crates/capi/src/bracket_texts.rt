@@ -11,8 +11,7 @@ pub extern "C" fn jemqolu_plan(text: &[u8], log: &[u32], work: &mut [u32], out: 
     ensures work { work.new ≡ (run_call text.now log.now work.old out.old).work }
     ensures out { out.new ≡ (run_call text.now log.now work.old out.old).out }
 {
-    let w = plan::run(text, log, work, out);
-    capi_answers::count(w)
+    capi_answers::count(plan::run(text, log, work, out))
 }
 
 // A log text listed: the bytes of its listing at the front of `out`, how many.
@@ -20,6 +19,5 @@ pub extern "C" fn jemqolu_plan(text: &[u8], log: &[u32], work: &mut [u32], out: 
 pub extern "C" fn jemqolu_list(text: &[u8], out: &mut [u8]) -> i64
     ensures { (result ≡ counted (list_call text.now out.old).answer) × (out.new ≡ (list_call text.now out.old).buffer) }
 {
-    let w = listing_memory::list(text, out);
-    capi_answers::count(w)
+    capi_answers::count(listing_memory::list(text, out))
 }

@@ -15,6 +15,5 @@ pub extern "C" fn jemqolu_one_more(
 ) -> i64
     ensures { (result ≡ changed (insertion_call log.now place extent size)) × (change.new ≡ change_left (insertion_call log.now place extent size) change.old) }
 {
-    let a = insertion::one_more(log, place, extent, size);
-    capi_answers::insertion(a, change)
+    capi_answers::insertion(insertion::one_more(log, place, extent, size), change)
 }

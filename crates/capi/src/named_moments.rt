@@ -9,8 +9,7 @@ ghost use Rattle.moments_words.specs.Calls.{name_in, return_in};
 pub extern "C" fn jemqolu_names_new(names: &mut [u32]) -> i64
     ensures { (result ≡ counted (new_names names.old).answer) × (names.new ≡ (new_names names.old).buffer) }
 {
-    let w = moments::new_names(names);
-    capi_answers::count(w)
+    capi_answers::count(moments::new_names(names))
 }
 
 // The session in the words is put under the name: 0.
@@ -18,8 +17,7 @@ pub extern "C" fn jemqolu_names_new(names: &mut [u32]) -> i64
 pub extern "C" fn jemqolu_session_name(session: &[u32], names: &mut [u32], name: u32) -> i64
     ensures { (result ≡ done (name_in session.now names.old name).answer) × (names.new ≡ (name_in session.now names.old name).names) }
 {
-    let a = moments_words::name_session(session, names, name);
-    capi_answers::moment(a)
+    capi_answers::done(moments_words::name_session(session, names, name))
 }
 
 // The session under the name comes to the front of the words: 0.
@@ -27,6 +25,5 @@ pub extern "C" fn jemqolu_session_name(session: &[u32], names: &mut [u32], name:
 pub extern "C" fn jemqolu_session_return(session: &mut [u32], names: &[u32], name: u32) -> i64
     ensures { (result ≡ done (return_in session.old names.now name).answer) × (session.new ≡ (return_in session.old names.now name).words) }
 {
-    let a = moments_words::return_to(session, names, name);
-    capi_answers::moment(a)
+    capi_answers::done(moments_words::return_to(session, names, name))
 }

@@ -1,7 +1,7 @@
 // One store split among customers.
 ghost use Rattle.std.specs.Prelude.{◌≡◌};
 ghost use Rattle.split_calls.specs.Calls.{split_call};
-ghost use Rattle.capi_answers.specs.Answers.{missed_in_all};
+ghost use Rattle.capi_answers.specs.Answers.{counted};
 
 // The misses in all of the customers' summaries, which stand end to end, at the shares found, which stand at the front of `shares`.
 #[unsafe(no_mangle)]
@@ -11,8 +11,7 @@ pub extern "C" fn jemqolu_split(
     summaries: &[u32],
     shares: &mut [u32],
 ) -> i64
-    ensures { (result ≡ missed_in_all (split_call store leasts.now summaries.now shares.old).answer) × (shares.new ≡ (split_call store leasts.now summaries.now shares.old).shares) }
+    ensures { (result ≡ counted (split_call store leasts.now summaries.now shares.old).answer) × (shares.new ≡ (split_call store leasts.now summaries.now shares.old).shares) }
 {
-    let a = split::split(store, leasts, summaries, shares);
-    capi_answers::split(a)
+    capi_answers::number(split::split(store, leasts, summaries, shares))
 }

@@ -6,5 +6,5 @@ use Rattle.capi.proofs.bracket_texts.jemqolu_plan.Goals as goal
 
 pub returns-clause-is : goal.returns-clause-is
 returns-clause-is c =
-    let h = c.run-w.ensures in
+    let h = c.run.ensures in
     read_count c.count.result _ _ c.count.type_inv c.count.ensures h.is (small-run c.args.out.now (omega (arith, c.well_formed.1.1.1.0.1)) _ _ _)

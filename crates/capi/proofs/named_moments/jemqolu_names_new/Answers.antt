@@ -6,5 +6,5 @@ use Rattle.capi.proofs.named_moments.jemqolu_names_new.Goals as goal
 
 pub returns : goal.returns
 returns c =
-    let h = c.new_names-w.ensures in
+    let h = c.new_names.ensures in
     (read_count c.count.result _ _ c.count.type_inv c.count.ensures h.0 (small-names c.args.names.now (omega (arith, c.well_formed.0.1))), h.1)

@@ -6,5 +6,5 @@ use Rattle.capi.proofs.sessions.jemqolu_session_summary.Goals as goal
 
 pub returns : goal.returns
 returns c =
-    let h = c.summary-w.ensures in
+    let h = c.summary.ensures in
     (read_count c.count.result _ _ c.count.type_inv c.count.ensures h.0 (small-summary c.args.out.now (omega (arith, c.well_formed.1.0.1)) _), h.1)

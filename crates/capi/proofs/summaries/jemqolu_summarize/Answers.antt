@@ -6,5 +6,5 @@ use Rattle.capi.proofs.summaries.jemqolu_summarize.Goals as goal
 
 pub returns : goal.returns
 returns c =
-    let h = c.of_trace-w.ensures in
+    let h = c.of_trace.ensures in
     (read_count c.count.result _ _ c.count.type_inv c.count.ensures h.0 (small-trace c.args.out.now (omega (arith, c.well_formed.1.0.1)) _), h.1)
