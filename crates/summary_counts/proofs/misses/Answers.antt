@@ -1,42 +1,54 @@
--- `summary_counts::misses` meets its contract.
-use Rattle.std.specs.Prelude.{Ok}
-use mathlib.Core.Path.{◌≡◌, sym, ap, ◌∙◌}
-use Prim.Native.Nat.{◌-◌}
-use native.Mathlib.Omega.{arith}
-use mathlib.Core.Bool.{true}
-use lib.ListN.{get_or}
-use Rattle.reuse.specs.Summary.{well_formed, misses_of}
+-- `summary_counts::misses` meets its contract: the reads less the hits.
+use Rattle.std.proofs.Common.{◌≡◌, ℕ, ◌-◌, ◌≤◌, Ok, List, length, take, min, sym, ap, ◌∙◌, arith}
+use Rattle.std.proofs.lemmas.List.{length-take, take_min}
+use Rattle.reuse.specs.Limits.{max_reads, max_extents}
+use Rattle.reuse.specs.Lists.{sum}
+use Rattle.reuse.specs.Summary.{reads_of, hits_of, misses_of, counts_of}
+use Rattle.reuse_rows.proofs.Totals.{few-total}
 use Rattle.summary_calls.specs.Calls.{misses_call}
-use Rattle.summary_calls.proofs.Fields.{given, shaped, reads-split}
+use Rattle.summary_calls.proofs.Fields.{shaped, counts-few, reads-split}
+use Rattle.summary_formed.specs.declared.Parts.{Parts}
+use Rattle.summary_formed.specs.Parting.{PartsOf}
 use Rattle.summary_counts.proofs.misses.Goals as goal
+use Rattle.summary_counts.proofs.misses.Goals.{After-total-hits}
 
-pub returns-then-not-well_formed : goal.returns-then-not-well_formed
+module _ (w : List ℕ) (p : Parts) (h : PartsOf w p) (n : ℕ) where
+  -- the first words of H are summed
+  hits : (k t : ℕ) → k ≡ min n (length p.counts.now) → t ≡ sum (take max_extents (take k p.counts.now)) → t ≡ hits_of w n
+  unfolding hits_of
+  hits k t ek et =
+      et
+      ∙ rw (ek, take_min n p.counts.now, h.counts)
+      (few-total (take n (counts_of w)) (omega (arith, length-take n (counts_of w), counts-few w (shaped w h.formed))))
+
+  -- with the misses they are the reads
+  pub split : (k t : ℕ) → k ≡ min n (length p.counts.now) → t ≡ sum (take max_extents (take k p.counts.now))
+      → (t ≤ p.reads) × (p.reads ≤ max_reads) × (p.reads - t ≡ misses_of w n)
+  unfolding reads_of
+  split k t ek et =
+      let e = hits k t ek et in
+      let s = reads-split w h.formed n in
+      (omega (arith, e, s, h.reads), omega (arith, h.reads, (shaped w h.formed).short), omega (arith, e, s, h.reads))
+
+-- the words are a summary's
+formed : (c : After-total-hits) → PartsOf c.args.words.now c.in-Some.parts
+formed c = c.of.ensures.1 _ c.in-Some.is
+
+-- its hits and misses
+told : (c : After-total-hits)
+    → (c.total-hits.result ≤ c.in-Some.parts.reads) × (c.in-Some.parts.reads ≤ max_reads) × (c.in-Some.parts.reads - c.total-hits.result ≡ misses_of c.args.words.now c.args.size)
+told c = split _ _ (formed c) _ _ _ c.min-served.ensures c.total-hits.ensures.0
+
+pub returns-in_default : goal.returns-in_default
 unfolding misses_call
-returns-then-not-well_formed c = sym (simp (sym c.well_formed-2.ensures ∙ c.if-not-well_formed.true))
+returns-in_default c = sym (simp (c.of.ensures.0 c.in_default.is))
 
-pub bounds-words-0 : goal.bounds-words-0
-bounds-words-0 c =
-    let w = c.args.words.now in
-    let h : well_formed w ≡ true = sym c.well_formed-2.ensures ∙ c.if-not-well_formed.false in
-    omega (arith, (shaped w h).long)
-
-pub hits-requires : goal.hits-requires
-hits-requires c =
-    let w = c.args.words.now in
-    let h : well_formed w ≡ true = sym c.well_formed-2.ensures ∙ c.if-not-well_formed.false in
-    given w h
+pub overflow_cast-result : goal.overflow_cast-result
+overflow_cast-result c = omega (arith, (told c).0, (told c).1)
 
 pub overflow_sub-result : goal.overflow_sub-result
-overflow_sub-result c =
-    let w = c.args.words.now in
-    let h : well_formed w ≡ true = sym c.well_formed-2.ensures ∙ c.if-not-well_formed.false in
-    omega (arith, c.hits.ensures, reads-split w h c.args.size)
+overflow_sub-result c = (told c).0
 
 pub returns : goal.returns
 unfolding misses_call
-returns c =
-    let w = c.args.words.now in
-    let h : well_formed w ≡ true = sym c.well_formed-2.ensures ∙ c.if-not-well_formed.false in
-    let n = c.args.size in
-    let e : get_or w 0 0 - c.hits.result ≡ misses_of w n = omega (arith, c.hits.ensures, reads-split w h n) in
-    sym (simp h (ap Ok (sym e)))
+returns c = sym (simp ((formed c).formed) (ap Ok (sym (told c).2)))

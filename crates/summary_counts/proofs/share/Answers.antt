@@ -4,7 +4,7 @@ use Rattle.reuse.specs.declared.refusals.Refusal.TheVariants.{NotASummary}
 use Rattle.reuse.specs.Summary.{well_formed, reads_of, extents_of, hits_of, misses_of, servable_of}
 use Rattle.reuse.proofs.Formed.{formed}
 use Rattle.reuse.proofs.Told.{told, untold, handed_on}
-use Rattle.summary_calls.specs.Calls.{misses_call, share_of, share_call}
+use Rattle.summary_calls.specs.Calls.{misses_call, share_call}
 use Rattle.summary_calls.proofs.Fields.{shaped, reads-split}
 use Rattle.summary_counts.proofs.share.Goals as goal
 use Rattle.summary_counts.proofs.share.Goals.{In_ok-missed}
