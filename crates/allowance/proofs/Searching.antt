@@ -5,15 +5,15 @@ use native.Mathlib.Numerals.{add-one}
 use native.Mathlib.Nat.{zero-add}
 use native.Mathlib.Omega.{arith}
 use mathlib.Core.List.{List, ◌∷◌}
-use mathlib.Core.Bool.{true}
 use lib.ListN.{length, drop, get_or, drop_of_length-le}
 use lib.Seq.{drop-cons}
 use borrow.Author.Tests.{le-leb, lt-leb}
 use Rattle.reuse.specs.Lists.{sum}
-use Rattle.reuse.specs.Summary.{well_formed, reads_of, counts_of}
 use Rattle.reuse.proofs.Sums.{sum_drop}
 use Rattle.reuse.proofs.Formed.{formed}
 use Rattle.summary_calls.proofs.Fields.{shaped, counts-few}
+use Rattle.summary_formed.specs.declared.Parts.{Parts}
+use Rattle.summary_formed.specs.Parting.{PartsOf}
 use Rattle.allowance_calls.specs.Search.{searched}
 use Rattle.allowance_calls.proofs.Search.{searched-enough, searched-on}
 use Rattle.allowance.specs.Searching.{Searchable, found_by}
@@ -65,7 +65,9 @@ module _ (counts : List ℕ) (reads m : ℕ) where
     unfolding searched
     search-end l = found (ap (λ (hs : List ℕ). length (searched m left hs)) (drop_of_length-le counts l))
 
--- H of well-formed words can be searched, with all reads at the start
-pub searchable : (w : List ℕ) → well_formed w ≡ true → Searchable (counts_of w) (get_or w 0 0)
-unfolding reads_of
-searchable w h = record { few = counts-few w (shaped w h); within = omega (arith, (formed w h).total) }
+-- H of a summary can be searched, with all reads at the start
+pub searchable : (w : List ℕ) (p : Parts) → PartsOf w p → Searchable p.counts.now p.reads
+searchable w p h = record {
+  few = omega (arith, ap length h.counts, counts-few w (shaped w h.formed));
+  within = omega (arith, ap sum h.counts, h.reads, (formed w h.formed).total);
+}

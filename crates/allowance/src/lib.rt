@@ -8,24 +8,21 @@ ghost use Rattle.allowance.specs.Searching.{Searchable, found_by};
 
 pub use allowance_calls::SmallestCache;
 use reuse::Refusal;
-use summary_formed::well_formed;
+use summary_formed::Parts;
 
 // The smallest size of a cache that misses no more often than this, and how many words of H the search for it read.
 pub fn smallest(words: &[u32], misses: u32) -> Result<SmallestCache, Refusal>
     ensures { result ≡ smallest_call words.now misses }
 {
-    if !well_formed(words) {
+    let Some(parts) = Parts::of(words) else {
         return Err(Refusal::NotASummary);
-    }
-    let cold = words[1];
+    };
+    let cold = parts.first.len() as u32;
     let below = misses < cold;
     if below {
         return Err(Refusal::BelowCold);
     }
-    let v = cold as usize;
-    let recent = 2 + v;
-    let counts = recent + v;
-    Ok(search(&words[counts..], words[0], misses))
+    Ok(search(parts.counts, parts.reads, misses))
 }
 
 // H from distance 1 upwards: each word read takes its reads from the misses, until no more than these are left.

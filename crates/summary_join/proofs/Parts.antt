@@ -1,11 +1,11 @@
 -- F, R and H of a join, made apart of the parts of both and written one after the other.
 use mathlib.Core.Path.{◌≡◌, sym, ap, ◌∙◌}
-use Prim.Native.Nat.{ℕ, suc, min, ◌+◌, ◌*◌, ◌≤◌, ◌<◌}
+use Prim.Native.Nat.{ℕ, suc, min, ◌+◌, ◌≤◌, ◌<◌}
 use native.Mathlib.Omega.{arith}
 use mathlib.Core.List.{List, ◌++◌}
 use lib.ListN.{length, take, get_or}
 use borrow.Author.Tests.{le-leb}
-use Rattle.reuse.specs.Limits.{max_reads, max_extents}
+use Rattle.reuse.specs.Limits.{max_extents}
 use Rattle.reuse.specs.Lists.{firsts, beside}
 use Rattle.reuse.specs.Summary.{reads_of, first_of, joined_first, joined_recent, joined_counts, join_of}
 use Rattle.reuse.proofs.Lists.{firsts-append}
@@ -14,7 +14,7 @@ use Rattle.reuse.proofs.Formed.{formed, joined_length}
 use Rattle.reuse_rows.specs.Rows.{padded}
 use Rattle.reuse_copies.proofs.Padding.{padded-front}
 use Rattle.summary_calls.specs.Calls.{words_call, wrote}
-use Rattle.summary_calls.proofs.Fields.{given, shaped}
+use Rattle.summary_calls.proofs.Fields.{given}
 use Rattle.summary_cross.specs.Crossing.{added, crossed}
 use Rattle.summary_cross.specs.Joining.{Near}
 use Rattle.summary_cross.proofs.Joined.{joined-row}
@@ -26,11 +26,6 @@ module _ (a b : List ℕ) (p q : Parts) (left : PartsOf a p) (right : PartsOf b 
   pub reads-both : p.reads + q.reads ≡ get_or a 0 0 + get_or b 0 0
   unfolding reads_of
   reads-both = omega (arith, left.reads, right.reads)
-
-  -- each has no more reads than the limit, so their sum fits a word
-  pub reads-few : p.reads + q.reads ≤ 2 * max_reads
-  unfolding reads_of
-  reads-few = omega (arith, left.reads, right.reads, (shaped a left.formed).short, (shaped b right.formed).short)
 
   -- the different extents of both are F of the join
   pub firsts-both : firsts (p.first.now ++ q.first.now) ≡ joined_first a b

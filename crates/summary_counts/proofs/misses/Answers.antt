@@ -9,6 +9,7 @@ use Rattle.summary_calls.specs.Calls.{misses_call}
 use Rattle.summary_calls.proofs.Fields.{shaped, counts-few, reads-split}
 use Rattle.summary_formed.specs.declared.Parts.{Parts}
 use Rattle.summary_formed.specs.Parting.{PartsOf}
+use Rattle.summary_formed.proofs.Parting.{reads-few}
 use Rattle.summary_counts.proofs.misses.Goals as goal
 use Rattle.summary_counts.proofs.misses.Goals.{After-total-hits}
 
@@ -28,7 +29,7 @@ module _ (w : List ℕ) (p : Parts) (h : PartsOf w p) (n : ℕ) where
   split k t ek et =
       let e = hits k t ek et in
       let s = reads-split w h.formed n in
-      (omega (arith, e, s, h.reads), omega (arith, h.reads, (shaped w h.formed).short), omega (arith, e, s, h.reads))
+      (omega (arith, e, s, h.reads), reads-few w p h, omega (arith, e, s, h.reads))
 
 -- the words are a summary's
 formed : (c : After-total-hits) → PartsOf c.args.words.now c.in-Some.parts

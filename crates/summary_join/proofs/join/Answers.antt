@@ -3,7 +3,8 @@ use mathlib.Core.Path.{refl}
 use native.Mathlib.Omega.{arith}
 use Rattle.summary_calls.proofs.Calls.{refused-left, refused-right, refused-reads, refused-extents, join-wrote}
 use Rattle.summary_formed.specs.Parting.{PartsOf}
-use Rattle.summary_join.proofs.Parts.{reads-both, reads-few, extents-over, extents-all, written}
+use Rattle.summary_formed.proofs.Parting.{reads-few}
+use Rattle.summary_join.proofs.Parts.{reads-both, extents-over, extents-all, written}
 use Rattle.summary_join.proofs.join.Goals as goal
 use Rattle.summary_join.proofs.join.Goals.{In-Some-Some}
 
@@ -24,7 +25,7 @@ pub returns-in_default-2 : goal.returns-in_default-2
 returns-in_default-2 c = rw (refused-left _ _ _ (c.of.ensures.0 c.in_default.is-0)) (refl, refl)
 
 pub overflow_add-reads : goal.overflow_add-reads
-overflow_add-reads c = omega (arith, reads-few _ _ _ _ (left c) (right c))
+overflow_add-reads c = omega (arith, reads-few _ _ (left c), reads-few _ _ (right c))
 
 pub returns-then-reads-gt-MAX_READS : goal.returns-then-reads-gt-MAX_READS
 returns-then-reads-gt-MAX_READS c =
