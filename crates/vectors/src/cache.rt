@@ -1,53 +1,50 @@
 // A direct simulation of a cache by the times of the last reads: no stack and no distance.
-use crate::words::{get, put};
 use reuse::MAX_EXTENTS;
 
-// Whether the extent is held in place k. A place of time 0 is empty.
-fn holds<'a>(held: &'a [u32; MAX_EXTENTS], last: &'a [u32; MAX_EXTENTS], k: usize, x: u32) -> bool {
-    get(held, k) == x && get(last, k) != 0
+// What a place of the cache holds: an extent and the time of its last read. A place of time 0 is empty.
+#[derive(Clone, Copy)]
+struct Place {
+    extent: u32,
+    last: u32,
 }
 
-// The place that holds the extent; or else the one whose last read is oldest, an empty one before all others.
-fn place_for<'a>(
-    held: &'a [u32; MAX_EXTENTS],
-    last: &'a [u32; MAX_EXTENTS],
+impl Place {
+    // Whether it holds the extent.
+    fn holds(self, x: u32) -> bool {
+        self.extent == x && self.last != 0
+    }
+}
+
+// A cache of this size, and the number of its reads. It has no more places than as many different extents as the limit fill.
+#[derive(Drop)]
+pub struct Cache {
     size: usize,
-    x: u32,
-) -> usize {
-    let mut k: usize = 0;
-    for i in 0..size {
-        if holds(held, last, i, x) {
-            return i;
-        }
-        if get(last, i) < get(last, k) {
-            k = i;
-        }
-    }
-    k
+    places: [Place; MAX_EXTENTS],
+    reads: u32,
 }
 
-// A read of x at a time, in a cache of so many places: whether it is a hit. On a miss x comes in, for the oldest where the cache is full.
-pub fn read(
-    held: &mut [u32; MAX_EXTENTS],
-    last: &mut [u32; MAX_EXTENTS],
-    size: usize,
-    x: u32,
-    time: u32,
-) -> bool {
-    if size == 0 {
-        return false;
+impl Cache {
+    // An empty cache of this size.
+    pub fn new(size: u32) -> Self {
+        Cache {
+            size: size as usize,
+            places: [Place { extent: 0, last: 0 }; MAX_EXTENTS],
+            reads: 0,
+        }
     }
-    let k = place_for(held, last, size, x);
-    let hit = holds(held, last, k, x);
-    put(held, k, x);
-    put(last, k, time);
-    hit
-}
 
-// The places that a cache of this size can fill with as many different extents as the limit.
-pub fn places(size: u32) -> usize {
-    if size < MAX_EXTENTS as u32 {
-        return size as usize;
+    // A read of x: whether it is a hit. On a miss x comes in, in the place whose last read is oldest, an empty one before all others.
+    pub fn read(&mut self, x: u32) -> bool {
+        self.reads = self.reads.wrapping_add(1);
+        let last = self.reads;
+        let places = &mut self.places[..self.size.min(MAX_EXTENTS)];
+        if let Some(place) = places.iter_mut().find(|place| place.holds(x)) {
+            place.last = last;
+            return true;
+        }
+        if let Some(oldest) = places.iter_mut().min_by_key(|place| place.last) {
+            *oldest = Place { extent: x, last };
+        }
+        false
     }
-    MAX_EXTENTS
 }

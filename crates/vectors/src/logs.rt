@@ -1,66 +1,49 @@
 // Logs made by a fixed rule.
-use crate::words;
-use reuse::MAX_EXTENTS;
+ghost use Rattle.std.specs.Prelude.{◌<◌};
 
-const SPAN: u64 = 4294967296;
+use reuse::{MAX_EXTENTS, MAX_READS};
 
-// One round of mixing: the upper half folded into the lower, then a product.
-fn scramble(x: u64) -> u64 {
-    let a = x % SPAN;
-    let b = (a ^ (a / 65536)) % SPAN;
-    b * 73244475 % SPAN
+// The upper half of a word folded into its lower half.
+fn folded(x: u32) -> u32 {
+    x ^ (x >> 16)
 }
 
-// The i-th number of a seed, below 2 to the 32nd.
-fn mixed(seed: u64, i: usize) -> u32 {
-    let at = std::num::wrapping_add_u64(scramble(scramble(seed)), i as u64);
-    let a = scramble(scramble(at));
-    ((a ^ (a / 65536)) % SPAN) as u32
+// One round of mixing: a fold, then a product.
+fn scramble(x: u32) -> u32 {
+    folded(x).wrapping_mul(73244475)
 }
 
-// The remainder of n by v, or 0 where v is 0.
-fn turn(n: u32, v: u32) -> u32 {
-    if v == 0 {
-        return 0;
-    }
-    n % v
+// The i-th number of a seed.
+fn mixed(seed: u32, i: u32) -> u32 {
+    let at = scramble(scramble(seed)).wrapping_add(i);
+    folded(scramble(scramble(at)))
 }
 
 // The name of extent number k: no two below 4,294,967,295 agree, and the largest name is among the first.
 fn name(k: u32) -> u32 {
-    if k == 1 {
-        return u32::MAX;
+    match k {
+        1 => u32::MAX,
+        _ => k.wrapping_mul(2654435761),
     }
-    (k as u64 * 2654435761 % SPAN) as u32
-}
-
-// The smaller of two.
-fn least(a: u32, b: u32) -> u32 {
-    if a < b {
-        return a;
-    }
-    b
 }
 
 // The number, below v, of read i's extent in a log of one of four kinds: at random, the small ones more often, round all with others between, or few for a while.
-fn pick(seed: u64, i: usize, v: u32) -> u32 {
+fn pick(seed: u32, i: u32, v: u32) -> u32
+    requires { 0 < v }
+{
     let a = mixed(seed, i);
     match seed % 4 {
-        0 => turn(a, v),
-        1 => least(turn(a, v), turn(mixed(seed / 2, i), v)),
-        2 => turn(
-            std::num::wrapping_add_u32(words::narrow(i), a % 8 / 7 * 5),
-            v,
-        ),
-        _ => turn(
-            std::num::wrapping_add_u32(words::narrow(i / 64 * 7), a % 8),
-            v,
-        ),
+        0 => a % v,
+        1 => (a % v).min(mixed(seed / 2, i) % v),
+        2 => i.wrapping_add(a % 8 / 7 * 5) % v,
+        _ => (i / 64 * 7).wrapping_add(a % 8) % v,
     }
 }
 
 // The most extents of a log: few, all, or any number of them.
-fn variety(seed: u64) -> u32 {
+fn variety(seed: u32) -> u32
+    ensures { 0 < result }
+{
     let a = mixed(seed, 90001);
     match a % 3 {
         0 => a / 3 % 12 + 1,
@@ -70,9 +53,9 @@ fn variety(seed: u64) -> u32 {
 }
 
 // The log of a seed.
-pub fn fill(log: &mut [u32], seed: u64) {
+pub fn fill(log: &mut [u32], seed: u32) {
     let v = variety(seed);
-    for i in 0..log.len() {
-        log[i] = name(pick(seed, i, v));
+    for (x, i) in log.iter_mut().zip(0..MAX_READS) {
+        *x = name(pick(seed, i, v));
     }
 }

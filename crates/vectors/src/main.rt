@@ -5,7 +5,6 @@ mod cache;
 mod comparisons;
 mod count;
 mod logs;
-mod words;
 
 use std::io;
 
