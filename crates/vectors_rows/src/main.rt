@@ -8,79 +8,60 @@ use session::{Session, Step};
 use session_calls::Answer;
 use std::io;
 
-// The session after one more read.
-fn one_more(s: Session, extent: u32) -> Session {
-    let step = s.read(extent);
-    step.session
-}
-
 // The session after so many reads that go round so many extents.
 fn after(reads: u32, extents: u32) -> Session
     requires { 0 < extents }
 {
-    let mut s = Session::new();
+    let mut session = Session::new();
     for i in 0..reads {
-        s = one_more(s, i % extents);
+        session = session.read(i % extents).session;
     }
-    s
-}
-
-// A number after a text.
-fn put(rt: &impl Print, text: &str, n: u32) -> io::Result<()> {
-    print!(rt; "{text}{n}")
+    session
 }
 
 // One row: the call, and what it answered. The session after it is handed on.
 fn row(rt: &impl Print, call: &str, step: Step) -> io::Result<Session> {
-    let answer = step.answer;
-    print!(rt; "{call}")?;
+    let Step { answer, session } = step;
+    print!(rt; "{call}: ")?;
     match answer {
-        Answer::Cold {
-            number,
-            slots_looked,
-        } => {
-            put(rt, ": cold ", number)?;
-            put(rt, ", slots looked at ", slots_looked)?;
+        Ok(
+            Answer::Cold {
+                number,
+                slots_looked,
+            },
+        ) => println!(rt; "cold {number}, slots looked at {slots_looked}")?,
+        Ok(
+            Answer::Distance {
+                distance,
+                sums_read,
+                slots_looked,
+            },
+        ) => {
+            println!(rt;
+                "distance {distance}, sums read {sums_read}, slots looked at {slots_looked}"
+            )?
         }
-        Answer::Distance {
-            distance,
-            sums_read,
-            slots_looked,
-        } => {
-            put(rt, ": distance ", distance)?;
-            put(rt, ", sums read ", sums_read)?;
-            put(rt, ", slots looked at ", slots_looked)?;
-        }
-        Err(n) => {
-            put(rt, ": refused ", n)?;
-        }
+        Err(refusal) => println!(rt; "refused {}", u32::from(refusal))?,
     }
-    println!(rt)?;
-    Ok(step.session)
+    Ok(session)
 }
 
 // All rows.
 fn main(rt: HostRuntime) -> io::Result<()> {
-    let one = after(SLOTS as u32 - 1, 1);
+    let slots = SLOTS as u32;
+    let extents = MAX_EXTENTS as u32;
+    let one = after(slots - 1, 1);
     let moved = row(&rt, "one extent, read 2,048", one.read(0))?;
     row(&rt, "one extent, read 2,049", moved.read(0))?;
-    let last_new = after(MAX_EXTENTS as u32 - 1, MAX_EXTENTS as u32 - 1);
-    let full = row(
-        &rt,
-        "the 1,024th extent",
-        last_new.read(MAX_EXTENTS as u32 - 1),
-    )?;
+    let last_new = after(extents - 1, extents - 1);
+    let full = row(&rt, "the 1,024th extent", last_new.read(extents - 1))?;
     let known = row(&rt, "1,024 extents, then a known one", full.read(0))?;
-    row(
-        &rt,
-        "1,024 extents, then another",
-        known.read(MAX_EXTENTS as u32),
-    )?;
-    let twice = after(SLOTS as u32, MAX_EXTENTS as u32);
+    row(&rt, "1,024 extents, then another", known.read(extents))?;
+    let twice = after(slots, extents);
     let kept = row(
         &rt,
         "1,024 extents twice, then another",
-        twice.read(MAX_EXTENTS as u32),
+        twice.read(extents),
     )?;
     row(&rt, "1,024 extents twice, then a known one", kept.read(0))?;
     let most = after(MAX_READS - 1, 1);
