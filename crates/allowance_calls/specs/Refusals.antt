@@ -1,5 +1,5 @@
 -- When the call for the smallest cache is refused: each number exactly under its condition, looked at after those before it.
-use Rattle.reuse.specs.Refusals.{number_of}
+use Rattle.reuse.specs.Refusals.{refusal_number}
 use Rattle.allowance_calls.specs.declared.SmallestCache.{SmallestCache}
 use Rattle.std.specs.Prelude.{ℕ, ◌≤◌, ◌<◌, ◌≡◌, ◌↔◌, List, true, false, Result, Ok, Err}
 use Rattle.reuse.specs.declared.refusals.Refusal.{Refusal}
@@ -10,7 +10,7 @@ use Rattle.allowance_calls.specs.Calls.{smallest_call}
 -- the refusal's number, 0 where there is none
 abbrev pub size_refusal : Result SmallestCache Refusal → ℕ
 size_refusal (Ok a) = 0
-size_refusal (Err r) = number_of r
+size_refusal (Err r) = refusal_number r
 
 -- of every call
 pub record Refusals (w : List ℕ) (m : ℕ) : Type 0 where

@@ -3,7 +3,7 @@ use Rattle.allowance_calls.specs.declared.SmallestCache.{SmallestCache}
 use Rattle.summary_calls.specs.declared.HitShare.{HitShare}
 use Rattle.std.specs.Prelude.{ℕ, ◌≤◌, min, ℤ, pos, neg_ℤ, Float, Result, Ok, Err}
 use Rattle.reuse.specs.declared.refusals.Refusal.{Refusal}
-use Rattle.reuse.specs.Refusals.{number_of}
+use Rattle.reuse.specs.Refusals.{refusal_number}
 use Rattle.reuse.specs.Lru.{cold, at}
 use Rattle.reuse.specs.Written.{word_of}
 use Rattle.summary_calls.specs.declared.HitShare.TheVariants.{Share, NoReads}
@@ -17,13 +17,13 @@ negative n = neg_ℤ (pos n)
 -- how many, as words or misses, or the refusal
 abbrev pub counted : Result ℕ Refusal → ℤ
 counted (Ok n) = pos n
-counted (Err r) = negative (number_of r)
+counted (Err r) = negative (refusal_number r)
 
 -- 1 for a share, 0 for 'no reads', or the refusal
 abbrev pub shared : Result HitShare Refusal → ℤ
 shared (Ok (Share x)) = pos 1
 shared (Ok NoReads) = pos 0
-shared (Err r) = negative (number_of r)
+shared (Err r) = negative (refusal_number r)
 
 -- what stands in the share's place: the share, or what stood there
 abbrev pub share_left : Result HitShare Refusal → Float → Float
@@ -35,7 +35,7 @@ share_left (Err r) was = was
 abbrev pub told : Result Answer Refusal → ℤ
 told (Ok (Cold n k)) = pos (word_of (cold n))
 told (Ok (Distance d n k)) = pos (word_of (at d))
-told (Err r) = negative (number_of r)
+told (Err r) = negative (refusal_number r)
 
 -- what stands in the place of the sums read: their number, 0 for a cold read; a refusal leaves what stood there
 abbrev pub sums_left : Result Answer Refusal → ℕ → ℕ
@@ -52,7 +52,7 @@ slots_left (Err r) was = was
 -- 0 for a change of the misses, which may be negative itself, or the refusal
 abbrev pub changed : Result ℤ Refusal → ℤ
 changed (Ok d) = pos 0
-changed (Err r) = negative (number_of r)
+changed (Err r) = negative (refusal_number r)
 
 -- what stands in the change's place: the change, or what stood there
 abbrev pub change_left : Result ℤ Refusal → ℤ → ℤ
@@ -62,7 +62,7 @@ change_left (Err r) was = was
 -- the smallest size, or the refusal
 abbrev pub sized : Result SmallestCache Refusal → ℤ
 sized (Ok c) = pos c.size
-sized (Err r) = negative (number_of r)
+sized (Err r) = negative (refusal_number r)
 
 -- what stands in the place of the words of H read: their number; a refusal leaves what stood there
 abbrev pub words_left : Result SmallestCache Refusal → ℕ → ℕ
@@ -72,7 +72,7 @@ words_left (Err r) was = was
 -- 0 for what was done, or the refusal
 abbrev pub done : Result Unit Refusal → ℤ
 done (Ok tt) = pos 0
-done (Err r) = negative (number_of r)
+done (Err r) = negative (refusal_number r)
 
 -- the largest signed number
 abbrev pub most_signed : ℕ
@@ -81,7 +81,7 @@ most_signed = 9_223_372_036_854_775_807
 -- how many words were written, counted to at most the largest signed number, or the refusal
 abbrev pub counted_most : Result ℕ Refusal → ℤ
 counted_most (Ok n) = pos (min n most_signed)
-counted_most (Err r) = negative (number_of r)
+counted_most (Err r) = negative (refusal_number r)
 
 -- a count of words that a signed number holds
 abbrev pub Small : Result ℕ Refusal → Type 0

@@ -2,7 +2,7 @@
 #![tactic(auto)]
 
 ghost use Rattle.std.specs.Prelude.{◌≡◌, min, pos};
-ghost use Rattle.reuse.specs.Refusals.{number_of};
+ghost use Rattle.reuse.specs.Refusals.{refusal_number};
 ghost use Rattle.capi_answers.specs.Answers.{negative, most_signed, counted, counted_most, shared, share_left, told, sums_left, slots_left, changed, change_left, sized, words_left, done};
 
 use allowance_calls::SmallestCache;
@@ -15,7 +15,7 @@ const MOST: usize = i64::MAX as usize;
 
 // A refusal: the negative of its number.
 fn refusal(why: Refusal) -> i64
-    ensures { result ≡ negative (number_of why) }
+    ensures { result ≡ negative (refusal_number why) }
 {
     -i64::from(u32::from(why))
 }

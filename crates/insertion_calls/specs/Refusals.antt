@@ -1,5 +1,5 @@
 -- When the call on one more read is refused: each number exactly under its condition, looked at after those before it.
-use Rattle.reuse.specs.Refusals.{number_of}
+use Rattle.reuse.specs.Refusals.{refusal_number}
 use Rattle.std.specs.Prelude.{ℤ, ℕ, ◌≤◌, ◌<◌, ◌≡◌, ◌↔◌, List, length, Result, Ok, Err}
 use Rattle.reuse.specs.declared.refusals.Refusal.{Refusal}
 use Rattle.reuse.specs.Limits.{max_reads, max_extents}
@@ -11,7 +11,7 @@ use Rattle.insertion_calls.specs.Calls.{insertion_call}
 -- the refusal's number, 0 where there is none
 abbrev pub insertion_refusal : Result ℤ Refusal → ℕ
 insertion_refusal (Ok d) = 0
-insertion_refusal (Err r) = number_of r
+insertion_refusal (Err r) = refusal_number r
 
 -- of every call
 pub record Refusals (log : List ℕ) (place x c : ℕ) : Type 0 where

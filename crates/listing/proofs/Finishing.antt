@@ -2,7 +2,7 @@
 use Rattle.std.specs.Prelude.{Result, Ok, Err}
 use Rattle.reuse.specs.declared.refusals.Refusal.{Refusal}
 use Rattle.reuse.specs.declared.refusals.Refusal.TheVariants.{FaultyLine, Unsound}
-use Rattle.reuse.specs.Refusals.{number_of, refusal_with}
+use Rattle.reuse.specs.Refusals.{refusal_number, refusal_with}
 use mathlib.Core.Path.{◌≡◌, refl, sym, ap, subst, ◌∙◌}
 use Prim.Native.Nat.{ℕ, zero, suc, ◌≤◌, ◌<◌}
 use mathlib.Core.Logic.{◌⊎◌, inl, inr}
@@ -152,7 +152,7 @@ number_small n h =
     (λ g. let z : eqb n 9 ≡ true = (simp (e, f, g) at h) in omega (arith, eqb-true n 9 z))))
 
 -- each is the number of its refusal
-text-number : (n : ℕ) → refuses_text n ≡ true → number_of (refusal_with n) ≡ n
+text-number : (n : ℕ) → refuses_text n ≡ true → refusal_number (refusal_with n) ≡ n
 unfolding refuses_text
 text-number n h =
     by-test (eqb n 1) (λ e. rw (eqb-true n 1 e))
@@ -161,22 +161,22 @@ text-number n h =
     (λ g. let z : eqb n 9 ≡ true = (simp (e, f, g) at h) in rw (eqb-true n 9 z))))
 
 -- a text that is kept and refused at its end prints its refusal
-kept-prints : (s : State) → Kept s → (r : Refusal) → verdict_at s ≡ Err r → printed_at s ≡ refused_text (number_of r)
+kept-prints : (s : State) → Kept s → (r : Refusal) → verdict_at s ≡ Err r → printed_at s ≡ refused_text (refusal_number r)
 unfolding printed_at verdict_at finish_by
 kept-prints (at k [] empty) g r e = let q : FaultyLine ≡ r = cc in rw (← q) refl
 kept-prints (at k [] (inside t)) g r e = let q : FaultyLine ≡ r = cc in rw (← q) refl
 kept-prints (at k [] (whole t)) g r e = never (cc)
 kept-prints (at k (x ∷ held) s) g r e = let q : FaultyLine ≡ r = cc in rw (← q) refl
-kept-prints (stopped k n) g r e = let q : refusal_with n ≡ r = cc in ap refused_text (sym (text-number n g) ∙ ap number_of q)
+kept-prints (stopped k n) g r e = let q : refusal_with n ≡ r = cc in ap refused_text (sym (text-number n g) ∙ ap refusal_number q)
 
 -- so does every lister
-pub prints-refused : (l : Lister) → Wide l → (r : Refusal) → verdict_at (state_of l) ≡ Err r → printed_at (state_of l) ≡ refused_text (number_of r)
+pub prints-refused : (l : Lister) → Wide l → (r : Refusal) → verdict_at (state_of l) ≡ Err r → printed_at (state_of l) ≡ refused_text (refusal_number r)
 unfolding printed_at finish_by
 prints-refused l w r v =
     by-test (sound_lister l) (λ e. kept-prints (state_of l) (sound-kept l e w) r v)
     (λ e. let q : ◌≡◌ {A = Result Unit Refusal} (Err Unsound) (Err r) = verdict-unsound l e ∙ v in
     let is : Unsound ≡ r = cc in
-    subst (λ (s : State). printed_at s ≡ refused_text (number_of r)) (sym (state-unsound l e)) (ap (λ (why : Refusal). refused_text (number_of why)) is))
+    subst (λ (s : State). printed_at s ≡ refused_text (refusal_number r)) (sym (state-unsound l e)) (ap (λ (why : Refusal). refused_text (refusal_number why)) is))
 
 -- what a text that is kept prints at its end fits a page
 kept-length : (s : State) → Kept s → length (printed_at s) ≤ page_bytes

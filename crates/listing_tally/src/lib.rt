@@ -2,7 +2,7 @@
 #![tactic(auto)]
 
 ghost use Rattle.std.specs.Prelude.{◌≡◌};
-ghost use Rattle.reuse.specs.Refusals.{number_of};
+ghost use Rattle.reuse.specs.Refusals.{refusal_number};
 ghost use Rattle.texts.specs.Words.{after};
 ghost use Rattle.texts.specs.Logs.{trace_word};
 ghost use Rattle.listing_lines.specs.Forms.{head_found};
@@ -38,7 +38,7 @@ pub struct Progress {
 impl Progress {
     // The text is refused, its tally as it is.
     fn refused(self, refusal: Refusal) -> Progress
-        ensures { result ≡ refused (number_of refusal) self.reads self.extents }
+        ensures { result ≡ refused (refusal_number refusal) self.reads self.extents }
     {
         Progress {
             phase: Phase::Stopped(u32::from(refusal)),

@@ -1,6 +1,6 @@
 -- Each refusal of a naming and of a return is given exactly under its condition, in order, and leaves what was there.
 use Rattle.std.specs.Prelude.{Result, Ok, Err}
-use Rattle.reuse.specs.Refusals.{number_of}
+use Rattle.reuse.specs.Refusals.{refusal_number}
 use Rattle.reuse.specs.declared.refusals.Refusal.{Refusal}
 use Rattle.reuse.specs.declared.refusals.Refusal.TheVariants.{OutOfRange, NoRoom, Unsound, NameNotSet}
 use mathlib.Core.Path.{◌≡◌, refl}
@@ -23,7 +23,7 @@ answer_by a b c rest p q r = cond p (cond q (cond r rest (Err c)) (Err b)) (Err 
 
 -- the number it gives
 pub answer-number : (a b c : Refusal) (rest : Result Unit Refusal) (p q r : Bool)
-    → moment_refusal (answer_by a b c rest p q r) ≡ cond p (cond q (cond r (moment_refusal rest) (number_of c)) (number_of b)) (number_of a)
+    → moment_refusal (answer_by a b c rest p q r) ≡ cond p (cond q (cond r (moment_refusal rest) (refusal_number c)) (refusal_number b)) (refusal_number a)
 answer-number a b c rest true true true = refl
 answer-number a b c rest true true false = refl
 answer-number a b c rest true false r = refl

@@ -1,5 +1,5 @@
 -- When a naming and a return are refused: each number exactly under its condition, looked at after those before it.
-use Rattle.reuse.specs.Refusals.{number_of}
+use Rattle.reuse.specs.Refusals.{refusal_number}
 use Rattle.std.specs.Prelude.{ℕ, ◌≡◌, ◌↔◌, ◌≢◌, true, false, List, length, Result, Ok, Err}
 use Rattle.reuse.specs.declared.refusals.Refusal.{Refusal}
 use Rattle.session.specs.declared.Session.{Session}
@@ -9,7 +9,7 @@ use Rattle.moments.specs.Names.{is_name, lies, is_set, session_under, name_call,
 -- the refusal's number, 0 where there is none
 abbrev pub moment_refusal : Result Unit Refusal → ℕ
 moment_refusal (Ok tt) = 0
-moment_refusal (Err r) = number_of r
+moment_refusal (Err r) = refusal_number r
 
 -- of every naming
 pub record NamingRefusals (s : Session) (names : List ℕ) (k : ℕ) : Type 0 where

@@ -2,7 +2,7 @@
 use Rattle.std.specs.Prelude.{Result, Ok, Err}
 use Rattle.reuse.specs.declared.refusals.Refusal.{Refusal}
 use Rattle.reuse.specs.declared.refusals.Refusal.TheVariants.{FaultyLine, OutOfRange, PlanTooLarge}
-use Rattle.reuse.specs.Refusals.{number_of}
+use Rattle.reuse.specs.Refusals.{refusal_number}
 use mathlib.Core.Path.{◌≡◌, sym, ap, subst, ◌∙◌}
 use Prim.Native.Nat.{ℕ, zero, suc, ◌+◌, ◌*◌, ◌-◌, ◌≤◌, ◌<◌, max}
 use native.Mathlib.Omega.{arith}
@@ -81,13 +81,13 @@ module _ (s : List ℕ) (at d most count : ℕ) where
     join h g (Err r') f = λ k.
         let c = cut-join d (drop at s) (drop next s) (sym w) in
         let r = f (suc k) d (sym (add-one d)) in
-        (r.0, rw c.1 (laws.join-refuses k d most count c.0 (drop next s) c.2 c.3 h g r.0 (number_of r') r.1))
+        (r.0, rw c.1 (laws.join-refuses k d most count c.0 (drop next s) c.2 c.3 h g r.0 (refusal_number r') r.1))
 
 module _ (s : List ℕ) (at d most count sum low may : ℕ) (is : may ≡ closable_after most count) where
   -- the next part is refused
   pub stop : (r : Refusal) → FormIs s at d may count (Err r) → PartsIs s at d most count sum low (Err r)
   stop why f k e r =
-      let n = number_of why in
+      let n = refusal_number why in
       let g = f k in
       let h : FormRefuses k (suc e) (closable_after most count) count (drop at s) g.0 n =
       subst (λ (x : ℕ). FormRefuses k (suc e) x count (drop at s) g.0 n) is (subst (λ (x : ℕ). FormRefuses k x may count (drop at s) g.0 n) (sym r) g.1) in
@@ -129,7 +129,7 @@ module _ (s : List ℕ) (at d most count sum low may : ℕ) (is : may ≡ closab
               (subst (λ (x : ℕ). PartsGive (suc g.0) e most (suc count) (sum + total) x (drop next s) o.reads o.depth o.closes v.0 (drop o.next s)) larger h),
         )
     more z (Err why) w = λ k e r.
-        let n = number_of why in
+        let n = refusal_number why in
         let g = given k e 0 r z in
         let v = w (suc g.0) e r in
         let h : PartsRefuse (suc g.0) e most (suc count) (sum + total) deep (drop next s) v.0 n =

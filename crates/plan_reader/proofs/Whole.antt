@@ -2,7 +2,7 @@
 use Rattle.std.specs.Prelude.{Ok, Err}
 use Rattle.reuse.specs.declared.refusals.Refusal.{Refusal}
 use Rattle.reuse.specs.declared.refusals.Refusal.TheVariants.{FaultyLine, PlanTooLarge}
-use Rattle.reuse.specs.Refusals.{number_of}
+use Rattle.reuse.specs.Refusals.{refusal_number}
 use Rattle.reuse.proofs.Numbers.{with-number}
 use mathlib.Core.Path.{◌≡◌, sym, ap, subst, ◌∙◌}
 use Prim.Native.Nat.{ℕ, ◌+◌, ◌≤◌, ◌<◌}
@@ -23,7 +23,7 @@ too_long_lem text h = ap answer_of (sym (laws.text-long text h))
 module _ (text : List ℕ) (fits : length text ≤ max_bytes) where
   -- the form is refused
   pub refused : (why : Refusal) → FormIs text 0 0 0 0 (Err why) → Err why ≡ answer_of (plan_of text)
-  refused why f = let r = f 0 in ap Err (sym (with-number why)) ∙ ap answer_of (sym (laws.text-refused text fits r.0 (number_of why) r.1))
+  refused why f = let r = f 0 in ap Err (sym (with-number why)) ∙ ap answer_of (sym (laws.text-refused text fits r.0 (refusal_number why) r.1))
 
   module _ (total depth closes next : ℕ) (none : closes ≡ 0) (f : FormIs text 0 0 0 0 (given_form total depth closes next)) where
     -- the form with what follows it

@@ -1,7 +1,7 @@
 -- What the readers of a plan text answer, by the definitions of `texts`.
 use Rattle.std.specs.Prelude.{◌≡◌, ℕ, suc, ◌+◌, ◌*◌, ◌≤◌, ◌<◌, List, drop, Result, Ok, Err}
 use Rattle.reuse.specs.declared.refusals.Refusal.{Refusal}
-use Rattle.reuse.specs.Refusals.{number_of, refusal_with}
+use Rattle.reuse.specs.Refusals.{refusal_number, refusal_with}
 use Rattle.texts.specs.Limits.{max_seg}
 use Rattle.texts.specs.Lines.{Read, got, refused}
 use Rattle.texts.specs.Plans.{Plan, reads, depth}
@@ -24,10 +24,10 @@ FormWithin at len most under limit base (Err r) = Unit
 abbrev pub FormIs : List ℕ → ℕ → ℕ → ℕ → ℕ → Result FormRead Refusal → Type 0
 FormIs s at d most before (Ok f) =
     (k : ℕ) → (j : ℕ) × FormGives k d most before (drop at s) f.reads f.depth f.closes j (drop f.next s)
-FormIs s at d most before (Err r) = (k : ℕ) → (line : ℕ) × FormRefuses k d most before (drop at s) line (number_of r)
+FormIs s at d most before (Err r) = (k : ℕ) → (line : ℕ) × FormRefuses k d most before (drop at s) line (refusal_number r)
 
 -- so is the rest of a join, one of the d joins open
 abbrev pub PartsIs : List ℕ → ℕ → ℕ → ℕ → ℕ → ℕ → ℕ → Result FormRead Refusal → Type 0
 PartsIs s at d most count sum low (Ok f) =
     (k e : ℕ) → suc e ≡ d → (j : ℕ) × PartsGive k e most count sum low (drop at s) f.reads f.depth f.closes j (drop f.next s)
-PartsIs s at d most count sum low (Err r) = (k e : ℕ) → suc e ≡ d → (line : ℕ) × PartsRefuse k e most count sum low (drop at s) line (number_of r)
+PartsIs s at d most count sum low (Err r) = (k e : ℕ) → suc e ≡ d → (line : ℕ) × PartsRefuse k e most count sum low (drop at s) line (refusal_number r)

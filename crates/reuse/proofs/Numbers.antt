@@ -2,12 +2,12 @@
 use Rattle.std.proofs.Common.{◌≡◌, ℕ, Result, Ok, Err, refl}
 use Rattle.std.specs.Result.{result_unwrap_or}
 use Rattle.reuse.specs.declared.refusals.UnknownNumber.{UnknownNumber}
-use Rattle.reuse.specs.Refusals.{number_of, numbered, Numbered, refusal_with}
+use Rattle.reuse.specs.Refusals.{refusal_number, numbered, Numbered, refusal_with}
 use Rattle.reuse.specs.declared.refusals.Refusal.{Refusal}
 use Rattle.reuse.specs.declared.refusals.Refusal.TheVariants.{FaultyLine, OutOfRange, WrongTotal, PlanTooLarge, NotASummary, NoRoom, Unsound, TooManyReads, TooManyExtents, StoreTooSmall, NameNotSet, BelowCold}
 
 -- the refusal with a refusal's number is that refusal
-pub with-number : (r : Refusal) → refusal_with (number_of r) ≡ r
+pub with-number : (r : Refusal) → refusal_with (refusal_number r) ≡ r
 with-number FaultyLine = refl
 with-number OutOfRange = refl
 with-number WrongTotal = refl

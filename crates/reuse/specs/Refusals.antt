@@ -6,19 +6,19 @@ use Rattle.reuse.specs.declared.refusals.Refusal.TheVariants.{FaultyLine, OutOfR
 use Rattle.reuse.specs.declared.refusals.UnknownNumber.{UnknownNumber}
 
 -- the number of a refusal
-abbrev pub number_of : Refusal → ℕ
-number_of FaultyLine = 1
-number_of OutOfRange = 2
-number_of WrongTotal = 3
-number_of PlanTooLarge = 4
-number_of NotASummary = 5
-number_of NoRoom = 6
-number_of Unsound = 7
-number_of TooManyReads = 8
-number_of TooManyExtents = 9
-number_of StoreTooSmall = 10
-number_of NameNotSet = 11
-number_of BelowCold = 12
+abbrev pub refusal_number : Refusal → ℕ
+refusal_number FaultyLine = 1
+refusal_number OutOfRange = 2
+refusal_number WrongTotal = 3
+refusal_number PlanTooLarge = 4
+refusal_number NotASummary = 5
+refusal_number NoRoom = 6
+refusal_number Unsound = 7
+refusal_number TooManyReads = 8
+refusal_number TooManyExtents = 9
+refusal_number StoreTooSmall = 10
+refusal_number NameNotSet = 11
+refusal_number BelowCold = 12
 
 -- the refusal with a number, where there is one
 abbrev pub numbered : ℕ → Option Refusal

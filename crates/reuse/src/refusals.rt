@@ -1,6 +1,6 @@
 // Refusals: why a call sends back what it was handed, each with the paper's number.
 ghost use Rattle.std.specs.Prelude.{◌≡◌};
-ghost use Rattle.reuse.specs.Refusals.{number_of, Numbered};
+ghost use Rattle.reuse.specs.Refusals.{refusal_number, Numbered};
 
 // A refusal, by what it refuses.
 #[derive(Clone, Copy, Debug, PartialEq, Eq)]
@@ -36,7 +36,7 @@ pub enum Refusal {
 pub struct UnknownNumber(pub u32);
 
 impl From<Refusal> for u32 {
-    ghost from_gives = { λ refusal number. number ≡ number_of refusal };
+    ghost from_gives = { λ refusal number. number ≡ refusal_number refusal };
 
     fn from(refusal: Refusal) -> u32 {
         refusal as u32

@@ -1,5 +1,5 @@
 -- When a split is refused: each number exactly under its condition, looked at after those before it.
-use Rattle.reuse.specs.Refusals.{number_of}
+use Rattle.reuse.specs.Refusals.{refusal_number}
 use Rattle.std.specs.Prelude.{ℕ, ◌≤◌, ◌<◌, ◌≡◌, ◌⊎◌, ◌↔◌, ◌≢◌, false, length, Result, Ok, Err}
 use Rattle.reuse.specs.declared.refusals.Refusal.{Refusal}
 use mathlib.Core.List.{List, Memᴰ}
@@ -12,7 +12,7 @@ use Rattle.split_calls.specs.Calls.{split_call}
 -- the refusal's number, 0 where there is none
 abbrev pub split_refusal : Result ℕ Refusal → ℕ
 split_refusal (Ok n) = 0
-split_refusal (Err r) = number_of r
+split_refusal (Err r) = refusal_number r
 
 -- a store above the largest, or a number of customers that is not from 1 to the most
 abbrev pub Outside : ℕ → List ℕ → Type 0

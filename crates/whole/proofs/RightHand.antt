@@ -3,7 +3,7 @@ use Rattle.summary_calls.specs.declared.HitShare.{HitShare}
 use Rattle.std.specs.Prelude.{Result, Ok, Err}
 use Rattle.reuse.specs.declared.refusals.Refusal.{Refusal}
 use Rattle.reuse.specs.declared.refusals.Refusal.TheVariants.{Unsound, TooManyReads, TooManyExtents}
-use Rattle.reuse.specs.Refusals.{number_of}
+use Rattle.reuse.specs.Refusals.{refusal_number}
 use Prim.Native.Nat.{ℕ}
 use mathlib.Core.Path.{◌≡◌, refl, sym, ap, ◌∙◌}
 use mathlib.Core.Logic.{◌↔◌, ◌≢◌}
@@ -121,17 +121,17 @@ corresponds o h =
 abbrev read_number : Result Answer Refusal → ℕ
 read_number (Ok (Cold n k)) = 0
 read_number (Ok (Distance d n k)) = 0
-read_number (Err why) = number_of why
+read_number (Err why) = refusal_number why
 
 -- of a call that writes words, or of misses
 abbrev count_number : Result ℕ Refusal → ℕ
 count_number (Ok n) = 0
-count_number (Err why) = number_of why
+count_number (Err why) = refusal_number why
 
 -- of a share
 abbrev share_number : Result HitShare Refusal → ℕ
 share_number (Ok s) = 0
-share_number (Err why) = number_of why
+share_number (Err why) = refusal_number why
 
 -- an accepted read is not refused
 step-number : (o : FullSession) (x : ℕ) (r : Reuse) → read_number (full-reads.step_at o x r).answer ≡ 0

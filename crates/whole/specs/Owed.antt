@@ -1,7 +1,7 @@
 -- What read calls must answer, said of the log alone.
 use Rattle.std.specs.Prelude.{ℕ, List, [], ◌∷◌, ◌++◌, cond, ltb, length, Result, Ok, Err}
 use Rattle.reuse.specs.declared.refusals.Refusal.{Refusal}
-use Rattle.reuse.specs.Refusals.{number_of}
+use Rattle.reuse.specs.Refusals.{refusal_number}
 use Rattle.reuse.specs.Limits.{max_reads, max_extents}
 use Rattle.reuse.specs.Lists.{firsts}
 use Rattle.reuse.specs.Lru.{Reuse, cold, at, distance}
@@ -17,7 +17,7 @@ Seen = Reply Reuse
 abbrev pub seen_of : Result Answer Refusal → Seen
 seen_of (Ok (Cold n k)) = gives (cold n)
 seen_of (Ok (Distance d n k)) = gives (at d)
-seen_of (Err why) = refused (number_of why)
+seen_of (Err why) = refused (refusal_number why)
 
 -- what a read of x must answer, t being the reads accepted before: 8 where more reads than the limit would result, else 9
 -- where more extents would, else the distance or the newcomer's number counted on the log

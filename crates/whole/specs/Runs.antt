@@ -1,7 +1,7 @@
 -- Runs of read calls, and what calls hand over.
 use Rattle.std.specs.Prelude.{ℕ, ◌+◌, ◌*◌, List, [], ◌∷◌, Bool, leb, length, take, Result, Ok, Err}
 use Rattle.reuse.specs.declared.refusals.Refusal.{Refusal}
-use Rattle.reuse.specs.Refusals.{number_of}
+use Rattle.reuse.specs.Refusals.{refusal_number}
 use Rattle.reuse.specs.Lists.{firsts}
 use Rattle.reuse.specs.Lru.{cold, at}
 use Rattle.reuse.specs.Written.{word_of}
@@ -51,7 +51,7 @@ Outcome = Reply (List ℕ)
 -- by the answer and the buffer
 abbrev pub outcome_of : Result ℕ Refusal → List ℕ → Outcome
 outcome_of (Ok n) buffer = gives (take n buffer)
-outcome_of (Err why) buffer = refused (number_of why)
+outcome_of (Err why) buffer = refused (refusal_number why)
 
 -- of a call
 abbrev pub outcome : Wrote → Outcome
