@@ -55,7 +55,8 @@ pub fn hold(stack: &mut [u32], n: usize, reads: &[u32]) -> usize
     held
 }
 
-// The reads up to the next one of the extent are taken so, from the place on, and marked.
+// The reads up to the next one of the extent are taken so, from the place on, and marked. The stack and its count stay apart,
+// as `touch` promises on any slice and any count.
 pub fn follow(
     stack: &mut [u32],
     n: usize,

@@ -16,6 +16,7 @@ use listing_turns::Turn;
 use reuse::Refusal;
 
 // A log text taken so far: what is held of a line that has not ended, how far the text is, and the tally of its reads.
+// Arrays with their lengths beside, since nothing is allocated, and damaged ones can be handed in.
 #[derive(Clone, Copy)]
 pub struct Lister {
     pub line: [u8; LONGEST],
@@ -145,6 +146,7 @@ impl Lister {
         };
         let mut stack = self.stack;
         let mut counts = self.counts;
+        // No count of steps: each turn says where the next line begins.
         while turn.at < bytes.len() {
             turn = listing_turns::advance(bytes, turn, &mut stack, &mut counts);
         }

@@ -19,7 +19,7 @@ const ROW_ROOM: usize = 23;
 // The bytes of a page.
 pub const PAGE_BYTES: usize = HEAD_ROOM + ROW_ROOM * reuse::MAX_EXTENTS;
 
-// A page of output: its first `len` bytes are the text.
+// A page of output: its first `len` bytes are the text. An array with its length beside, since nothing is allocated.
 #[derive(Drop)]
 pub struct Page {
     pub bytes: [u8; PAGE_BYTES],

@@ -25,6 +25,7 @@ fn put_number(page: &mut [u8], at: usize, n: u32) -> usize
     let mut digits = [0u8; 10];
     let mut first = digits.len();
     let mut left = n;
+    // No count of steps: one for each digit that the number has.
     loop {
         first -= 1;
         digits[first] = b'0' + (left % 10) as u8;

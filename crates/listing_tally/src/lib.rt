@@ -124,7 +124,8 @@ pub fn take_line(line: &[u8], progress: Progress, stack: &mut [u32], counts: &mu
     }
 }
 
-// A line ends: its first `held` bytes stand in `line`, and `rest` are the others. A faulty line where it is too long.
+// A line ends: its first `held` bytes stand in `line`, and `rest` are the others. A faulty line where it is too long. The rows
+// are lent one by one, as they stand in a lister: a struct of two `&mut` would be made anew for each call.
 pub fn end_line(
     line: [u8; LONGEST],
     held: usize,

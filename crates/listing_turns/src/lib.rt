@@ -6,7 +6,8 @@ ghost use Rattle.listing_turns.specs.Turns.{is_stopped, reaches, turn_after, adv
 
 use listing_tally::{LONGEST, Phase, Progress};
 
-// How far a piece is taken: the position, the bytes held of a line that has not ended, and the text so far.
+// How far a piece is taken: the position, the bytes held of a line that has not ended, and the text so far. An array with its
+// length beside, since nothing is allocated.
 #[derive(Clone, Copy)]
 pub struct Turn {
     pub at: usize,

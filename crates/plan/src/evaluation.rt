@@ -15,7 +15,8 @@ pub struct Done {
     pub words: usize,
 }
 
-// The plan at `at` under `under` joins, on the log's reads from `from` on, with `left` levels of work words.
+// The plan at `at` under `under` joins, on the log's reads from `from` on, with `left` levels of work words. No struct of
+// these: each form within is carried out at another place, with other reads and one level less.
 pub fn evaluate(
     s: &[u8],
     at: usize,
@@ -61,6 +62,7 @@ pub fn evaluate(
                 taken: from,
                 words: 0,
             };
+            // No count of steps: the form that was carried out says whether the join closes with it.
             while done.closes == 0 {
                 let held = done.words;
                 reuse_copies::put(work, 0, &out[..held]);

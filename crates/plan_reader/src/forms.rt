@@ -83,6 +83,7 @@ pub fn form(
     }
 }
 
+// No struct of the place and the limits: each call within has other ones of both.
 // The rest of a join at `at`, with `under` joins open, this one among them, after `count` parts of `reads` reads and the depth `low`.
 #[cycle(form_parts)]
 fn parts(

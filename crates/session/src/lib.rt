@@ -17,7 +17,8 @@ use session_soundness::Fields;
 // One less, modulo 2^32.
 const ONE_LESS: u32 = 4294967295;
 
-// L, the count of the marks and the next slot; F and H, the slots, and the right-hand sums over their marks.
+// L, the count of the marks and the next slot; F and H, the slots, and the right-hand sums over their marks: the arrays that
+// the paper names.
 #[derive(Clone, Copy)]
 pub struct Session {
     pub reads: u32,

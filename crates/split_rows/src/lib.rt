@@ -13,7 +13,7 @@ pub const SIZES: usize = MAX_EXTENTS + 1;
 // The rooms from 0 to the largest store.
 pub const ROOMS: usize = MAX_STORE + 1;
 
-// The smaller of two numbers.
+// The smaller of two numbers: a call of its own for its two must-fail edits.
 pub fn smaller(a: usize, b: usize) -> usize
     ensures { result ≡ min a b }
 {

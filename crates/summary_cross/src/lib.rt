@@ -23,6 +23,7 @@ pub fn counts(recent: &[u32], first: &[u32], before: &[u32], after: &[u32]) -> [
 fn add(row: &mut [u32], more: &[u32])
     ensures { row.new ≡ added row.old more.now }
 {
+    // By index: of `row.iter_mut().zip(more)` nothing is known of the elements written, so the proof does not close.
     for i in 0..row.len().min(more.len()) {
         row[i] = row[i].wrapping_add(more[i]);
     }

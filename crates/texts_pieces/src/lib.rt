@@ -53,7 +53,7 @@ pub fn word_at(s: &[u8], at: usize, w: &[u8]) -> bool
     s[at..].starts_with(w)
 }
 
-// The value of a digit.
+// The value of a digit. By hand: `to_digit` is of a `char` and answers an Option, which no digit needs.
 fn digit(b: u8) -> u64
     requires { (48 ≤ b) × (b ≤ 57) }
     ensures { result + 48 ≡ b }
