@@ -12,30 +12,15 @@ const APART: usize = 7;
 // The page of a text fed byte by byte.
 pub fn by_bytes(text: &[u8]) -> Page {
     let mut lister = Lister::new();
-    for i in 0..text.len() {
-        lister = lister.feed(&text[i..i + 1]);
+    for &byte in text {
+        lister = lister.feed(&[byte]);
     }
     lister.finish()
 }
 
-// The page of a text fed in three pieces, cut before byte a and before byte b.
-fn by_three(text: &[u8], a: usize, b: usize) -> Page
-    requires a_le_b { a ≤ b }
-    requires b_in_bounds { b ≤ length text.now }
-{
-    let none = Lister::new();
-    let first = none.feed(&text[0..a]);
-    let second = first.feed(&text[a..b]);
-    let third = second.feed(&text[b..]);
-    third.finish()
-}
-
-// The bytes from one place up to another, or none where there are not so many.
-pub fn part<'a>(bytes: &'a [u8], from: usize, to: usize) -> &'a [u8] {
-    if from <= to && to <= bytes.len() {
-        return &bytes[from..to];
-    }
-    &bytes[0..0]
+// The bytes of a page's text.
+pub fn text_of(page: &Page) -> &[u8] {
+    page.bytes.get(..page.len).unwrap_or(&[])
 }
 
 // Whether the cutting before byte a and before byte b gives the output wanted.
@@ -43,9 +28,11 @@ fn gives(text: &[u8], a: usize, b: usize, wanted: &[u8]) -> bool
     requires a_le_b { a ≤ b }
     requires b_in_bounds { b ≤ length text.now }
 {
-    let page = by_three(text, a, b);
-    let bytes = page.bytes;
-    part(&bytes, 0, page.len) == wanted
+    let mut lister = Lister::new();
+    for piece in [&text[..a], &text[a..b], &text[b..]] {
+        lister = lister.feed(piece);
+    }
+    text_of(&lister.finish()) == wanted
 }
 
 // How many of the cuttings before byte b, and before each byte up to it whose place is a multiple of `apart`, give the
@@ -55,11 +42,9 @@ fn cut_at(text: &[u8], b: usize, apart: usize, wanted: &[u8], agree: bool) -> u6
     requires b_in_bounds { b ≤ length text.now }
 {
     let mut n: u64 = 0;
-    for a in 0..=b {
-        if a % apart == 0 {
-            let same = gives(text, a, b, wanted);
-            n = std::num::wrapping_add_u64(n, (same == agree) as u64);
-        }
+    for a in (0..=b).step_by(apart) {
+        let same = gives(text, a, b, wanted);
+        n = n.wrapping_add(u64::from(same == agree));
     }
     n
 }
@@ -68,7 +53,7 @@ fn cut_at(text: &[u8], b: usize, apart: usize, wanted: &[u8], agree: bool) -> u6
 fn threes(text: &[u8], wanted: &[u8], agree: bool) -> u64 {
     let mut n: u64 = 0;
     for b in 0..=text.len() {
-        n = std::num::wrapping_add_u64(n, cut_at(text, b, 1, wanted, agree));
+        n = n.wrapping_add(cut_at(text, b, 1, wanted, agree));
     }
     n
 }
