@@ -34,10 +34,6 @@ module _ (s : List ℕ) (i : ℕ) where
       (λ p. sym (ap ends (gone s i p) ∙ e))
       (cases_lt i (length s))
 
-  -- no join's line ends there
-  pub join-none : LineEnd s i None → bad_at ≡ join_ends (drop i s)
-  join-none = none-ends join_ends refl (λ x l f. rw (ne_eqb x 10 f))
-
   -- a join's line ends there
   pub join-ends : (next : ℕ) → LineEnd s i (Some next) → join_at (drop next s) ≡ join_ends (drop i s)
   join-ends next h = sym (ap join_ends (here s i h.0) ∙ rw (eq-eqb (get_or s i 0) 10 h.1, h.2))
@@ -79,10 +75,6 @@ module _ (s : List ℕ) (i : ℕ) where
   -- a seg stands there
   pub form-seg : false ≡ word_at join_word (drop i s) → true ≡ word_at seg_word (drop i s) → (p : Place) → p ≡ number_at (number_of (drop (i + 5) s)) → p ≡ form_at (drop i s)
   form-seg t u p e = e ∙ ap (λ (l : List ℕ). number_at (number_of l)) (sym (drop-drop 5 i s)) ∙ rw (← t, ← u)
-
-  -- neither stands there
-  pub form-bad : false ≡ word_at join_word (drop i s) → false ≡ word_at seg_word (drop i s) → bad_at ≡ form_at (drop i s)
-  form-bad t u = rw (← t, ← u)
 
   module _ (d run : ℕ) (counted : run ≡ run_of d 32 (drop i s)) where
     -- too few leading spaces
