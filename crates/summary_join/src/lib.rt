@@ -11,7 +11,10 @@ use summary_formed::Parts;
 pub fn join(a: &[u32], b: &[u32], out: &mut [u32]) -> Result<usize, Refusal>
     ensures { (result ≡ (join_call a.now b.now out.old).answer) × (out.new ≡ (join_call a.now b.now out.old).buffer) }
 {
-    let (Some(a), Some(b)) = (Parts::of(a), Parts::of(b)) else {
+    let Some(a) = Parts::of(a) else {
+        return Err(Refusal::NotASummary);
+    };
+    let Some(b) = Parts::of(b) else {
         return Err(Refusal::NotASummary);
     };
     let reads = a.reads + b.reads;
