@@ -5,7 +5,7 @@ ghost use Rattle.split_calls.specs.Cuts.{own_words};
 ghost use Rattle.split.specs.Search.{Cuttable, Laying, TableLaid, Scanning, Scanned, Seeking, Sought, Choosing, Chosen, SplitReady, SplitFound};
 
 use reuse::{MAX_CUSTOMERS, MAX_EXTENTS};
-use split_rows::{ROOMS, SIZES};
+use split_rows::{ROOMS, Rooms, SIZES};
 
 // A row of misses for each customer.
 const COSTS: usize = MAX_CUSTOMERS * SIZES;
@@ -42,7 +42,8 @@ fn lay(words: &[u32], leasts: &[u32], store: usize, costs: &mut [u32], table: &m
     );
     let least = leasts[0] as usize;
     let low = least + others;
-    split_rows::enter(&words[..own], least, low, store, costs, table);
+    let rooms = Rooms { least, low, store };
+    split_rows::enter(&words[..own], rooms, costs, table);
     low
 }
 

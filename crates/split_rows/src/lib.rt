@@ -13,6 +13,14 @@ pub const SIZES: usize = MAX_EXTENTS + 1;
 // The rooms from 0 to the largest store.
 pub const ROOMS: usize = MAX_STORE + 1;
 
+// The rooms of a customer before the others: its least share, the least shares of it and them in all (`low`), and the store.
+#[derive(Clone, Copy)]
+pub struct Rooms {
+    pub least: usize,
+    pub low: usize,
+    pub store: usize,
+}
+
 // The smaller of two numbers: a call of its own for its two must-fail edits.
 pub fn smaller(a: usize, b: usize) -> usize
     ensures { result ≡ min a b }
@@ -48,19 +56,19 @@ fn least_sum(own: &[u32], others: &[u32], left: usize, tries: usize) -> u32
 
 // The table's first row from its second, in the rooms from `low` to the store: own[i] are the misses of the customer before the
 // others with i extents past its least share, and no more than `span` of them save any.
-fn fill(own: &[u32], span: usize, least: usize, low: usize, store: usize, table: &mut [u32])
-    requires { Fillable own.now span least low store table.old }
-    ensures { table.new ≡ filled_row own.now span least low store table.old }
+fn fill(own: &[u32], span: usize, rooms: Rooms, table: &mut [u32])
+    requires { Fillable own.now span rooms.least rooms.low rooms.store table.old }
+    ensures { table.new ≡ filled_row own.now span rooms.least rooms.low rooms.store table.old }
 {
-    for t in low..=store {
-        let tries = (t - low).min(span);
-        table[t] = least_sum(own, &table[ROOMS..], t - least, tries);
+    for t in rooms.low..=rooms.store {
+        let tries = (t - rooms.low).min(span);
+        table[t] = least_sum(own, &table[ROOMS..], t - rooms.least, tries);
     }
 }
 
 // Whether the words are as long as their v says, within the limit, and the numbers and the rows fit one another.
-fn fits(words: &[u32], least: usize, low: usize, store: usize, costs: usize, table: usize) -> bool
-    ensures { result ≡ enterable words.now least low store costs table }
+fn fits(words: &[u32], rooms: Rooms, costs: usize, table: usize) -> bool
+    ensures { result ≡ enterable words.now rooms.least rooms.low rooms.store costs table }
 {
     if words.len() < 2 {
         return false;
@@ -68,31 +76,24 @@ fn fits(words: &[u32], least: usize, low: usize, store: usize, costs: usize, tab
     let v = words[1] as usize;
     v <= MAX_EXTENTS
         && 2 + 3 * v <= words.len()
-        && least <= low
-        && low <= store
-        && store <= MAX_STORE
+        && rooms.least <= rooms.low
+        && rooms.low <= rooms.store
+        && rooms.store <= MAX_STORE
         && SIZES <= costs
         && ROOMS + ROOMS <= table
 }
 
 // One customer more before the others: its misses at the front of `costs`, and the row of it and them at the front of the table.
-pub fn enter(
-    words: &[u32],
-    least: usize,
-    low: usize,
-    store: usize,
-    costs: &mut [u32],
-    table: &mut [u32],
-)
-    ensures costs { costs.new ≡ (entered_rows words.now least low store costs.old table.old).costs }
-    ensures table { table.new ≡ (entered_rows words.now least low store costs.old table.old).table }
+pub fn enter(words: &[u32], rooms: Rooms, costs: &mut [u32], table: &mut [u32])
+    ensures costs { costs.new ≡ (entered_rows words.now rooms.least rooms.low rooms.store costs.old table.old).costs }
+    ensures table { table.new ≡ (entered_rows words.now rooms.least rooms.low rooms.store costs.old table.old).table }
 {
-    if !fits(words, least, low, store, costs.len(), table.len()) {
+    if !fits(words, rooms, costs.len(), table.len()) {
         return;
     }
     let own = misses_row(words);
     reuse_copies::put(costs, 0, &own);
     let v = words[1] as usize;
-    let base = least.min(v);
-    fill(&own[base..], v - base, least, low, store, table);
+    let base = rooms.least.min(v);
+    fill(&own[base..], v - base, rooms, table);
 }

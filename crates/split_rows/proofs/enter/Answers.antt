@@ -8,13 +8,13 @@ use Rattle.split_rows.proofs.enter.Goals.{Else-not-fits}
 
 -- what fits
 known : (c : Else-not-fits) →
-    let a = c.args in Fit a.words.now a.least a.low a.store (length a.costs.now) (length a.table.now)
+    let a = c.args in Fit a.words.now a.rooms.least a.rooms.low a.rooms.store (length a.costs.now) (length a.table.now)
 known c = fit _ _ _ _ _ _ (sym c.fits.ensures ∙ c.if-not-fits.false)
 
 pub returns-then-not-fits : goal.returns-then-not-fits
 returns-then-not-fits c =
     let a = c.args in
-    let e = entered-not a.words.now a.least a.low a.store a.costs.now a.table.now (sym c.fits.ensures ∙ c.if-not-fits.true) in
+    let e = entered-not a.words.now a.rooms.least a.rooms.low a.rooms.store a.costs.now a.table.now (sym c.fits.ensures ∙ c.if-not-fits.true) in
     record { costs = ap (λ (r : Rows). r.costs) (sym e); table = ap (λ (r : Rows). r.table) (sym e) }
 
 pub misses_row-own-requires : goal.misses_row-own-requires
@@ -45,5 +45,5 @@ returns c =
     let a = c.args in
     let f = known (goal.at.returns c).Else-not-fits in
     let b = c.min-base.ensures in
-    let e = fit-entered a.words.now a.least a.low a.store a.costs.now a.table.now f _ b in
-    let m = c.misses_row-own.ensures in record { costs = rw m at c.put.ensures ∙ placed-fits _ _ _ (fit-costs a.words.now a.least a.low a.store a.costs.now a.table.now f _ b) ∙ ap (λ (r : Rows). r.costs) (sym e); table = rw m at c.fill.ensures ∙ ap (λ (r : Rows). r.table) (sym e) }
+    let e = fit-entered a.words.now a.rooms.least a.rooms.low a.rooms.store a.costs.now a.table.now f _ b in
+    let m = c.misses_row-own.ensures in record { costs = rw m at c.put.ensures ∙ placed-fits _ _ _ (fit-costs a.words.now a.rooms.least a.rooms.low a.rooms.store a.costs.now a.table.now f _ b) ∙ ap (λ (r : Rows). r.costs) (sym e); table = rw m at c.fill.ensures ∙ ap (λ (r : Rows). r.table) (sym e) }
