@@ -17,7 +17,7 @@ use reuse::Refusal;
 
 // A log text taken so far: what is held of a line that has not ended, how far the text is, and the tally of its reads.
 // Arrays with their lengths beside, since nothing is allocated, and damaged ones can be handed in.
-#[derive(Clone, Copy)]
+#[derive(Clone, Copy, PartialEq, Eq)]
 pub struct Lister {
     pub line: [u8; LONGEST],
     pub held: usize,
