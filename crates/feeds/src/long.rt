@@ -1,5 +1,5 @@
 // Texts at the limit of reads.
-use crate::{pieces, report};
+use crate::report;
 use listing::Lister;
 use reuse::MAX_READS;
 use std::io;
@@ -11,7 +11,7 @@ fn of_reads(rt: &impl Print, name: &str, reads: u32) -> io::Result<()> {
         lister = lister.feed(b" (read 5)\n");
     }
     let page = lister.feed(b" (read 5))\n").finish();
-    report::output(rt, name, pieces::text_of(&page))
+    report::output(rt, name, &page.bytes[..page.len])
 }
 
 // Both texts at the limit.

@@ -10,17 +10,14 @@ const SHORT: usize = 100;
 const APART: usize = 7;
 
 // The page of a text fed byte by byte.
-pub fn by_bytes(text: &[u8]) -> Page {
+pub fn by_bytes(text: &[u8]) -> Page
+    ensures { result.len ≤ length result.bytes }
+{
     let mut lister = Lister::new();
     for &byte in text {
         lister = lister.feed(&[byte]);
     }
     lister.finish()
-}
-
-// The bytes of a page's text.
-pub fn text_of(page: &Page) -> &[u8] {
-    page.bytes.get(..page.len).unwrap_or(&[])
 }
 
 // Whether the cutting before byte a and before byte b gives the output wanted.
@@ -32,7 +29,8 @@ fn gives(text: &[u8], a: usize, b: usize, wanted: &[u8]) -> bool
     for piece in [&text[..a], &text[a..b], &text[b..]] {
         lister = lister.feed(piece);
     }
-    text_of(&lister.finish()) == wanted
+    let page = lister.finish();
+    &page.bytes[..page.len] == wanted
 }
 
 // How many of the cuttings before byte b, and before each byte up to it whose place is a multiple of `apart`, give the

@@ -11,7 +11,7 @@ pub fn output(rt: &impl Print, name: &str, page: &[u8]) -> io::Result<()> {
 // A text: its output fed byte by byte, and how many cuttings give that output, and how many do not.
 pub fn text(rt: &impl Print, name: &str, text: &[u8]) -> io::Result<()> {
     let page = pieces::by_bytes(text);
-    let wanted = pieces::text_of(&page);
+    let wanted = &page.bytes[..page.len];
     output(rt, name, wanted)?;
     let agree = pieces::cuttings(text, wanted, true);
     let differ = pieces::cuttings(text, wanted, false);

@@ -5,6 +5,7 @@ ghost use Rattle.std.specs.Prelude.{◌≡◌, ◌≤◌, take};
 ghost use Rattle.reuse.specs.Limits.{max_extents};
 ghost use Rattle.texts.specs.Logs.{longest_line};
 ghost use Rattle.listing_texts.specs.Feeding.{state_by, printed_at, verdict_at};
+ghost use Rattle.listing_texts.specs.Pages.{page_bytes};
 ghost use Rattle.listing_tally.specs.Rows.{tally_in, taken_by};
 ghost use Rattle.listing_pages.specs.Texts.{page_of};
 ghost use Rattle.listing.specs.Listers.{sound_lister, state_of, lister_with, lister_of, empty_lister, takes_more, fed_of};
@@ -17,7 +18,7 @@ use reuse::Refusal;
 
 // A log text taken so far: what is held of a line that has not ended, how far the text is, and the tally of its reads.
 // Arrays with their lengths beside, since nothing is allocated, and damaged ones can be handed in.
-#[derive(Clone, Copy)]
+#[derive(Clone, Copy, PartialEq, Eq)]
 pub struct Lister {
     pub line: [u8; LONGEST],
     pub held: usize,
@@ -176,7 +177,8 @@ impl Lister {
 
     // The whole output at the end of the text.
     pub fn finish(self) -> Page
-        ensures { result ≡ page_of (printed_at (state_of self)) }
+        ensures prints { result ≡ page_of (printed_at (state_of self)) }
+        ensures fits { result.len ≤ page_bytes }
     {
         match self.verdict() {
             Err(refusal) => listing_pages::refused_page(u32::from(refusal)),

@@ -18,7 +18,7 @@ pub const LONGEST: usize = 19;
 const MAX_EXTENT: u64 = 4294967295;
 
 // How far a text is: before its first line, inside the trace, at its end, or refused with this number.
-#[derive(Clone, Copy)]
+#[derive(Clone, Copy, PartialEq, Eq)]
 pub enum Phase {
     Empty,
     Inside,

@@ -6,7 +6,7 @@ use Rattle.session_rights.specs.Rights.{rights_of}
 use Rattle.session_rights.specs.Ways.{from_right, changed}
 use Rattle.session_points.specs.Points.{changed_by}
 use Rattle.session_rights.proofs.Changes.{rights-set}
-use Rattle.session_points.proofs.Places.{Place, slot-place, place_up, place-point, place-side, place-inner}
+use Rattle.session_points.proofs.Places.{Place, slot-place, place_up, place-point, place-side}
 
 -- no slot
 pub change-past : (c : ℕ) (R : List ℕ) (s : ℕ) → slot_count ≤ s → changed_by c R s ≡ R
@@ -64,10 +64,6 @@ module _ (N : ℕ) (f : ℕ → ℕ) (T A : List ℕ) (p : ℕ) where
     -- the turn
     pub changing-turn : ChangeTurn (levels - (k + 1))
     changing-turn = turned (levels - (k + 1)) next
-
-    -- the point over the node
-    pub changing-point : p / 2 + 1 < N
-    changing-point = let w = next in place-inner N p (levels - (k + 1)) w.b w.s w.place
 
   -- at the root all is changed
   pub changing-end : (d : ℕ) → d ≡ 0 → Changing d N f T A p → A ≡ T

@@ -2,7 +2,7 @@
 use Prim.Native.Nat.{ℕ, ◌+◌, ◌-◌, ◌≤◌}
 use mathlib.Core.Path.{◌≡◌, sym, ap, ◌∙◌}
 use mathlib.Core.List.{List}
-use mathlib.Core.Bool.{true}
+use mathlib.Core.Bool.{true, false}
 use native.Mathlib.Omega.{arith}
 use lib.ListN.{length, take, drop, replicate}
 use lib.Seq.{length-take-le, take_at}
@@ -48,33 +48,23 @@ pub record Passed (reads : ℕ) (first hist slots marks : List ℕ) (next v : �
 
 module _ (reads : ℕ) (first hist slots marks : List ℕ) (next v : ℕ) (w : Wide first hist slots marks) (is : sum marks ≡ v) where
   -- sound fields pass each test
-  module _ (f : Sound reads first hist slots marks next) where
-    -- the test of the marks
-    pub sound-marks : marks_hold slots marks next ≡ true
-    unfolding marks_hold
-    sound-marks =
-        let k = f.rows in
-        simp (le-leb next slot_count k.low, row-tidy k.row, sum-blank (drop next marks) k.free)
+  sound-passed : Sound reads first hist slots marks next → Passed reads first hist slots marks next v
+  unfolding marks_hold
+  sound-passed f =
+      let k = f.rows in
+      record {
+        short = f.short;
+        held = simp (le-leb next slot_count k.low, row-tidy k.row, sum-blank (drop next marks) k.free);
+        few = omega (arith, is, k.few);
+        first_rest = rw (← is) (sum-blank (drop (extents_in marks) first) k.first_rest);
+        hist-rest = rw (← is) (sum-blank (drop (extents_in marks) hist) k.hist-rest);
+        total = rw (← is) (omega (arith, hist-total reads first hist slots marks next k));
+        first-apart = rw (← is) k.first-apart;
+      }
 
-    -- the number of marks
-    pub sound-few : v ≤ max_extents
-    sound-few = omega (arith, is, f.rows.few)
-
-    -- zeros after F
-    pub sound-first-rest : blank (drop v first) ≡ true
-    sound-first-rest = rw (← is) (sum-blank (drop (extents_in marks) first) f.rows.first_rest)
-
-    -- H 0 above v
-    pub sound-hist-rest : blank (drop v hist) ≡ true
-    sound-hist-rest = rw (← is) (sum-blank (drop (extents_in marks) hist) f.rows.hist-rest)
-
-    -- L is v plus the sum of H
-    pub sound-total : sum (take v hist) + v ≡ reads
-    sound-total = rw (← is) (omega (arith, hist-total reads first hist slots marks next f.rows))
-
-    -- F has no extent twice
-    pub sound-apart : distinct (take v first) ≡ true
-    sound-apart = rw (← is) f.rows.first-apart
+  -- fields that fail a test are not sound
+  pub failed : (Passed reads first hist slots marks next v → ⊥) → false ≡ sound_rows reads first hist slots marks next
+  failed h = sym (unsound reads first hist slots marks next w (λ f. h (sound-passed f)))
 
   -- all tests but the last are passed
   module _ (p : Passed reads first hist slots marks next v) where

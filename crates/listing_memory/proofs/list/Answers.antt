@@ -1,5 +1,5 @@
 -- `listing_memory::list` meets its contract.
-use mathlib.Core.Path.{◌≡◌, sym, ap, subst, ◌∙◌}
+use mathlib.Core.Path.{◌≡◌, sym, ap, ◌∙◌}
 use Prim.Native.Nat.{◌+◌, ◌≤◌}
 use native.Mathlib.Omega.{arith}
 use lib.ListN.{length, take}
@@ -15,8 +15,7 @@ use Rattle.listing_texts.specs.Listings.{listing_of}
 use Rattle.listing_texts.specs.Pages.{page_bytes}
 use Rattle.listing.specs.declared.Lister.{Lister}
 use Rattle.listing.specs.Listers.{state_of, empty_lister, fed_of}
-use Rattle.listing.proofs.Listers.{Wide, new-wide, fed-wide}
-use Rattle.listing.proofs.Finishing.{page-fits, page-shows}
+use Rattle.listing.proofs.Finishing.{page-shows}
 use Rattle.listing.proofs.Cuttings.{printed-whole, verdict-whole}
 use Rattle.listing_memory.proofs.Listed.{list-refused, list-short, list_all}
 use borrow.Author.Rules.{rules}
@@ -35,18 +34,13 @@ judged c = c.verdict.ensures ∙ ap (λ (l : Lister). verdict_at (state_of l)) (
 printed : (c : After-finish-page) → take c.finish-page.result.len c.finish-page.result.bytes ≡ listing_of c.args.text.now
 printed c =
     let fed : c.feed-lister.result ≡ fed_of empty_lister c.args.text.now = c.feed-lister.ensures ∙ ap (λ (l : Lister). fed_of l c.args.text.now) c.new.ensures in
-    page-shows c.feed-lister.result c.finish-page.result c.finish-page.ensures
+    page-shows c.feed-lister.result c.finish-page.result c.finish-page.ensures.prints
     ∙ ap (λ (l : Lister). printed_at (state_of l)) fed
     ∙ printed-whole c.args.text.now
 
 -- the page holds what was printed
 holds : (c : After-finish-page) → c.finish-page.result.len ≤ length c.finish-page.result.bytes
-holds c =
-    let fed : c.feed-lister.result ≡ fed_of empty_lister c.args.text.now = c.feed-lister.ensures ∙ ap (λ (l : Lister). fed_of l c.args.text.now) c.new.ensures in
-    let w : length c.finish-page.result.bytes ≡ page_bytes = search rules in
-    let l = c.feed-lister.result in
-    let wide : Wide l = subst Wide (sym fed) (fed-wide empty_lister c.args.text.now new-wide) in
-    omega (arith, w, page-fits l wide c.finish-page.result c.finish-page.ensures)
+holds c = let w : length c.finish-page.result.bytes ≡ page_bytes = search rules in omega (arith, w, c.finish-page.ensures.fits)
 
 -- the text is listed
 listed : (c : After-finish-page) → verdict_by (log_of c.args.text.now) ≡ Ok tt

@@ -1,7 +1,6 @@
 -- `plan_joins::join_held` meets its contract.
-use mathlib.Core.Path.{◌≡◌, sym, ◌∙◌}
+use mathlib.Core.Path.{◌∙◌}
 use native.Mathlib.Omega.{arith}
-use lib.Seq.{length-take-le}
 use Rattle.plan_calls.specs.Calls.{count_of}
 use Rattle.plan_joins.proofs.Joins.{Holdable, Gives, level-short, held-long, words_long, out-short, gives_none, gives_both}
 use Rattle.plan_joins.proofs.join_held.Goals as goal
@@ -31,14 +30,6 @@ returns-then-out-words c = let g = out-short c.args.work.now c.args.held c.args.
 
 pub returns-then-held-eq0 : goal.returns-then-held-eq0
 returns-then-held-eq0 c = let g = gives_none c.args.work.now c.args.held c.args.out.now c.args.words (holdable (goal.at.returns-then-held-eq0 c).Else-out-words) (omega arith) in record { is = g.0; work = g.1.0; out = g.1.1 }
-
-pub slice_bounds-put-end-2 : goal.slice_bounds-put-end-2
-slice_bounds-put-end-2 c = sym (length-take-le _ _ (holdable (goal.at.slice_bounds-put-end-2 c).Else-out-words).fits)
-
-pub slice_bounds-first-end : goal.slice_bounds-first-end
-slice_bounds-first-end c =
-    let h = holdable (goal.at.slice_bounds-first-end c).Else-out-words in
-    sym (length-take-le _ _ (omega (arith, c.put.auto.out, h.first, h.level)))
 
 pub returns : goal.returns
 returns c =

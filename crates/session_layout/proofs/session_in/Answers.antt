@@ -1,7 +1,6 @@
 -- `session_layout::session_in` meets its contract.
 use Rattle.std.specs.Prelude.{Some}
 use mathlib.Core.Path.{sym, ◌∙◌}
-use mathlib.Core.Bool.{true, false}
 use native.Mathlib.Omega.{arith}
 use lib.ListN.{get_or}
 use Rattle.reuse.specs.Limits.{max_extents, slot_count, right_count}

@@ -10,16 +10,8 @@ returns-then-rights-ne-RIGHTS c = sym (walked_none _ _ (slot_none _ _ c.then-rig
 pub loop-level-init : goal.loop-level-init
 loop-level-init c = up_start levels slot_count _ _ refl (omega arith)
 
-pub offset_bounds-rights-node : goal.offset_bounds-rights-node
-offset_bounds-rights-node c = omega (arith, up_point _ _ _ _ _ _ _ _ (omega arith) c.loop-level.invariant)
-
 pub bounds-rights-node : goal.bounds-rights-node
 bounds-rights-node c = omega (arith, up_point _ _ _ _ _ _ _ _ (omega arith) c.loop-level.invariant)
-
-pub overflow_add-total : goal.overflow_add-total
-overflow_add-total c =
-    let l = c.loop-level in
-    omega (arith, c.type_inv.rights (l.node / 2), l.invariant.small, l.invariant.noughts, left-few levels 0 c.args.s)
 
 pub overflow_add-count : goal.overflow_add-count
 overflow_add-count c = omega (arith, c.loop-level.invariant.noughts, left-few levels 0 c.args.s)

@@ -18,22 +18,23 @@ use Rattle.session_calls.proofs.Summaries.{hits-small, hits-large, hits-reads}
 use Rattle.session_summary.proofs.Summaries.{rows, count-extents}
 use borrow.Author.Rules.{rules}
 use Rattle.session_summary.proofs.hits.Goals as goal
-use Rattle.session_summary.proofs.hits.Goals.{After-total, After-min-n, Start}
+use Rattle.session_summary.proofs.hits.Goals.{After-total, After-min-n}
 
 -- the widths of the session's arrays
-wide : (c : Start) → Wide c.args.s
+wide : (c : After-min-n) → Wide c.args.s
 wide c = record { first-wide = search rules; hist-wide = search rules; slots-wide = search rules; rights-wide = search rules }
 
 -- the old session's rows are sound
-kept : (c : Start) → Wide c.args.s → Kept (old_of c.args.s)
-kept c w = rows c.args.s w c.requires
+kept : (c : After-min-n) → Kept (old_of c.args.s)
+kept c = rows c.args.s (wide c) c.requires
 
 -- the words of H that are counted; the count is v
-counted : (c : After-min-n) → Kept (old_of c.args.s) → c.args.s.count ≡ extents c.args.s
-    → (c.min-n.result ≤ extents c.args.s) × (sum (take c.min-n.result c.args.s.hist) ≡ hits_of (session_words c.args.s) c.args.size)
-counted c k e =
+counted : (c : After-min-n) → (c.min-n.result ≤ extents c.args.s) × (sum (take c.min-n.result c.args.s.hist) ≡ hits_of (session_words c.args.s) c.args.size)
+counted c =
     let s = c.args.s in
     let n = c.args.size in
+    let k = kept c in
+    let e = count-extents s (wide c) c.requires in
     by-test (ltb s.count n)
     (λ t. let m : c.min-n.result ≡ s.count = omega (arith, c.min-n.ensures, ltb-true s.count n t) in
     rw (m ∙ e) (omega arith, hits-large (old_of s) k _ (omega (arith, e, ltb-true s.count n t))))
@@ -41,8 +42,8 @@ counted c k e =
     rw m (omega (arith, e, ltb-false s.count n f), hits-small (old_of s) k _ (omega (arith, e, ltb-false s.count n f))))
 
 -- they are within the limit
-small : (c : After-min-n) → Kept (old_of c.args.s) → c.args.s.count ≡ extents c.args.s → c.min-n.result ≤ max_extents
-small c k e = omega (arith, (counted c k e).0, kept-few (old_of c.args.s) k)
+small : (c : After-min-n) → c.min-n.result ≤ max_extents
+small c = omega (arith, (counted c).0, kept-few (old_of c.args.s) (kept c))
 
 -- their sum is the hits
 hit : (c : After-total) → Wide c.args.s → c.min-n.result ≤ max_extents → sum (take c.min-n.result c.args.s.hist) ≡ hits_of (session_words c.args.s) c.args.size
@@ -54,30 +55,21 @@ hit c w few e =
     ∙ e
 
 pub slice_bounds-hist-end : goal.slice_bounds-hist-end
-slice_bounds-hist-end c =
-    let b = goal.at.slice_bounds-hist-end c in
-    let w = wide b.Start in
-    omega (arith, small b.After-min-n (kept b.Start w) (count-extents c.args.s w c.requires), w.hist-wide)
+slice_bounds-hist-end c = let m = (goal.at.slice_bounds-hist-end c).After-min-n in omega (arith, small m, (wide m).hist-wide)
 
 pub slice_bounds-total-end : goal.slice_bounds-total-end
 slice_bounds-total-end c =
-    let b = goal.at.slice_bounds-total-end c in
-    let w = wide b.Start in
-    sym (length-take-le _ _ (omega (arith, small b.After-min-n (kept b.Start w) (count-extents c.args.s w c.requires), w.hist-wide)))
+    let m = (goal.at.slice_bounds-total-end c).After-min-n in
+    sym (length-take-le _ _ (omega (arith, small m, (wide m).hist-wide)))
 
 pub overflow_cast-result : goal.overflow_cast-result
 overflow_cast-result c =
     let b = goal.at.overflow_cast-result c in
-    let w = wide b.Start in
-    let k = kept b.Start w in
-    let e = count-extents c.args.s w c.requires in
-    let h = hit b.After-total w (small b.After-min-n k e) (counted b.After-min-n k e).1 in
-    omega (arith, h, hits-reads (old_of c.args.s) k c.args.size, (sound-facts c.args.s w c.requires).sound.short)
+    let m = b.After-min-n in
+    omega (arith, hit b.After-total (wide m) (small m) (counted m).1, hits-reads (old_of c.args.s) (kept m) c.args.size, (sound-facts c.args.s (wide m) c.requires).sound.short)
 
 pub returns : goal.returns
 returns c =
     let b = goal.at.returns c in
-    let w = wide b.Start in
-    let k = kept b.Start w in
-    let e = count-extents c.args.s w c.requires in
-    hit b.After-total w (small b.After-min-n k e) (counted b.After-min-n k e).1
+    let m = b.After-min-n in
+    hit b.After-total (wide m) (small m) (counted m).1

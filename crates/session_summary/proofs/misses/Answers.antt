@@ -11,10 +11,10 @@ use Rattle.session_calls.proofs.Summaries.{hits-reads, hits_few}
 use Rattle.session_summary.proofs.Summaries.{rows, misses-given}
 use borrow.Author.Rules.{rules}
 use Rattle.session_summary.proofs.misses.Goals as goal
-use Rattle.session_summary.proofs.misses.Goals.{Then-sound, Start}
+use Rattle.session_summary.proofs.misses.Goals.{Then-sound}
 
 -- the widths of the session's arrays
-wide : (c : Start) → Wide c.args.s
+wide : (c : Then-sound) → Wide c.args.s
 wide c = record { first-wide = search rules; hist-wide = search rules; slots-wide = search rules; rights-wide = search rules }
 
 -- the session is sound
@@ -30,14 +30,14 @@ hits-requires c = ok c
 
 pub overflow_sub-result : goal.overflow_sub-result
 overflow_sub-result c =
-    let b = goal.at.overflow_sub-result c in
-    omega (arith, hits_few (old_of c.args.s) (rows c.args.s (wide b.Start) (ok b.Then-sound)) _ _ c.hits.ensures)
+    let b = (goal.at.overflow_sub-result c).Then-sound in
+    omega (arith, hits_few (old_of c.args.s) (rows c.args.s (wide b) (ok b)) _ _ c.hits.ensures)
 
 pub returns-then-sound : goal.returns-then-sound
 returns-then-sound c =
-    let b = goal.at.returns-then-sound c in
+    let b = (goal.at.returns-then-sound c).Then-sound in
     let s = c.args.s in
-    let w = wide b.Start in
-    let o = ok b.Then-sound in
+    let w = wide b in
+    let o = ok b in
     let n : misses_of (session_words s) c.args.size ≡ s.reads - c.hits.result = omega (arith, c.hits.ensures, hits-reads (old_of s) (rows s w o) c.args.size) in
     sym (misses-given s w o c.args.size ∙ ap Ok n)

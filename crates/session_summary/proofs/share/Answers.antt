@@ -1,11 +1,10 @@
 -- `session_summary::share` meets its contract: the reads less the misses are the hits.
-use Rattle.std.proofs.Common.{◌≡◌, ℕ, ◌-◌, ◌≤◌, true, Ok, Err, sym, ap, ◌∙◌, arith, rules}
-use Rattle.reuse.specs.declared.refusals.Refusal.TheVariants.{Unsound}
+use Rattle.std.proofs.Common.{◌≡◌, ℕ, ◌-◌, true, Ok, sym, ap, ◌∙◌, arith, rules}
 use Rattle.reuse.specs.Summary.{hits_of, misses_of, servable_of}
 use Rattle.reuse.proofs.Told.{handed_on}
 use Rattle.summary_calls.specs.Calls.{share_of}
 use Rattle.session.specs.Sessions.{Wide, old_of, sound}
-use Rattle.session_summary.specs.Summaries.{session_words, misses_call, share_call}
+use Rattle.session_summary.specs.Summaries.{session_words}
 use Rattle.session_calls.proofs.Summaries.{servable-session, extents-reads, hits-reads}
 use Rattle.session_summary.proofs.Summaries.{rows, count-extents, share-given, misses-told, misses-untold}
 use Rattle.session_summary.proofs.share.Goals as goal

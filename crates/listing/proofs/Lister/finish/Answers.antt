@@ -14,7 +14,7 @@ use Rattle.std.specs.Prelude.{Ok, Err}
 use Rattle.listing_texts.specs.Listings.{refused_text}
 use Rattle.listing.proofs.Listers.{Wide}
 use Rattle.listing.proofs.Soundness.{sound-facts}
-use Rattle.listing.proofs.Finishing.{counted, prints-refused, listed-sound, prints-listed}
+use Rattle.listing.proofs.Finishing.{counted, prints-refused, listed-sound, prints-listed, page-fits}
 use borrow.Author.Rules.{rules}
 use Rattle.listing.proofs.Lister.finish.Goals as goal
 use Rattle.listing.proofs.Lister.finish.Goals.{In-Ok}
@@ -40,10 +40,15 @@ pub returns-in-Err : goal.returns-in-Err
 returns-in-Err c =
     let l = c.args.self in
     let wide : Wide l = record { stack-wide = search rules; counts-wide = search rules } in
-    c.refused_page.ensures ∙ ap (λ (n : ℕ). page_of (refused_text n)) c.from.ensures ∙ ap page_of (sym (prints-refused l wide c.in-Err.refusal (sym c.verdict.ensures ∙ c.in-Err.is)))
+    let e = c.refused_page.ensures ∙ ap (λ (n : ℕ). page_of (refused_text n)) c.from.ensures ∙ ap page_of (sym (prints-refused l wide c.in-Err.refusal (sym c.verdict.ensures ∙ c.in-Err.is))) in
+    record { prints = e; fits = page-fits l wide c.refused_page.result e }
 
 pub returns-in-Ok : goal.returns-in-Ok
 returns-in-Ok c =
     let l = c.args.self in
+    let wide : Wide l = record { stack-wide = search rules; counts-wide = search rules } in
+    let i = (goal.at.returns-in-Ok c).In-Ok in
+    let e =
     c.listing_page.ensures
-    ∙ ap page_of (sym (page-listed l.reads (take l.extents l.counts) (counted l.reads l.extents l.stack l.counts (tally (goal.at.returns-in-Ok c).In-Ok))) ∙ prints-listed l (listed-sound l (is-listed (goal.at.returns-in-Ok c).In-Ok)) (is-listed (goal.at.returns-in-Ok c).In-Ok))
+    ∙ ap page_of (sym (page-listed l.reads (take l.extents l.counts) (counted l.reads l.extents l.stack l.counts (tally i))) ∙ prints-listed l (listed-sound l (is-listed i)) (is-listed i)) in
+    record { prints = e; fits = page-fits l wide c.listing_page.result e }

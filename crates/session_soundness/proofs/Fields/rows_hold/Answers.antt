@@ -5,14 +5,12 @@ use lib.ListN.{length, take}
 use lib.Seq.{length-take-le, take_all}
 use Prim.Native.Nat.{ℕ, ◌+◌, ◌≤◌}
 use mathlib.Core.List.{List}
-use Rattle.reuse.specs.Limits.{max_extents, slot_count}
+use Rattle.reuse.specs.Limits.{max_extents}
 use Rattle.reuse.specs.Lists.{all_in, sum}
 use Rattle.reuse_rows.specs.Rows.{blank}
 use Rattle.reuse.proofs.Lists.{clash}
 use Rattle.reuse_rows.proofs.Slices.{part-rest}
-use Rattle.session_soundness.proofs.Sound.{unsound}
-use Rattle.session_soundness.proofs.Verdict.{Passed, passed-sound, sound-marks, sound-few, sound-first-rest, sound-hist-rest, sound-total, sound-apart}
-use borrow.Author.Rules.{rules}
+use Rattle.session_soundness.proofs.Verdict.{Passed, failed, passed-sound}
 use Rattle.session_soundness.proofs.Fields.rows_hold.Goals as goal
 use Rattle.session_soundness.proofs.Fields.rows_hold.Goals.{Else-not-all_distinct}
 
@@ -35,57 +33,25 @@ passed c =
     }
 
 pub returns-then-self-gt-MAX_READS : goal.returns-then-self-gt-MAX_READS
-returns-then-self-gt-MAX_READS c = sym (unsound _ _ _ _ _ _ c.requires.0 (λ f. omega (arith, f.short, c.if-self-gt-MAX_READS.true)))
+returns-then-self-gt-MAX_READS c = failed _ _ _ _ _ _ _ c.requires.0 c.requires.1 (λ p. omega arith)
 
 pub returns-then-not-marks_hold : goal.returns-then-not-marks_hold
-returns-then-not-marks_hold c =
-    let w = c.requires.0 in
-    let e = c.requires.1 in
-    sym (unsound _ _ _ _ _ _ w (λ f. clash (sound-marks _ _ _ _ _ _ _ w e f) (sym c.marks_hold.ensures ∙ c.if-not-marks_hold.true)))
+returns-then-not-marks_hold c = failed _ _ _ _ _ _ _ c.requires.0 c.requires.1 (λ p. clash p.held (sym c.marks_hold.ensures ∙ c.if-not-marks_hold.true))
 
 pub returns-then-self : goal.returns-then-self
-returns-then-self c =
-    let w = c.requires.0 in
-    let e = c.requires.1 in
-    sym (unsound _ _ _ _ _ _ w (λ f. omega (arith, c.if-self.true, sound-few _ _ _ _ _ _ _ w e f)))
+returns-then-self c = failed _ _ _ _ _ _ _ c.requires.0 c.requires.1 (λ p. omega arith)
 
 pub returns-then-not-all_zero : goal.returns-then-not-all_zero
-returns-then-not-all_zero c =
-    let w = c.requires.0 in
-    let e = c.requires.1 in
-    sym (unsound _ _ _ _ _ _ w (λ f. clash (sound-first-rest _ _ _ _ _ _ _ w e f) (sym (c.all_zero.ensures ∙ ap blank (part-rest c.args.self.first.now _)) ∙ c.if-not-all_zero.true)))
+returns-then-not-all_zero c = failed _ _ _ _ _ _ _ c.requires.0 c.requires.1 (λ p. clash p.first_rest (sym (c.all_zero.ensures ∙ ap blank (part-rest c.args.self.first.now _)) ∙ c.if-not-all_zero.true))
 
 pub returns-then-not-all_zero-2 : goal.returns-then-not-all_zero-2
-returns-then-not-all_zero-2 c =
-    let w = c.requires.0 in
-    let e = c.requires.1 in
-    sym (unsound _ _ _ _ _ _ w (λ f. clash (sound-hist-rest _ _ _ _ _ _ _ w e f) (sym (c.all_zero-2.ensures ∙ ap blank (part-rest c.args.self.hist.now _)) ∙ c.if-not-all_zero-2.true)))
-
-pub slice_bounds-total-end : goal.slice_bounds-total-end
-slice_bounds-total-end c = sym (length-take-le _ _ (omega (arith, c.if-self.false, c.requires.0.hist-wide)))
+returns-then-not-all_zero-2 c = failed _ _ _ _ _ _ _ c.requires.0 c.requires.1 (λ p. clash p.hist-rest (sym (c.all_zero-2.ensures ∙ ap blank (part-rest c.args.self.hist.now _)) ∙ c.if-not-all_zero-2.true))
 
 pub returns-then-total-v : goal.returns-then-total-v
-returns-then-total-v c =
-    let w = c.requires.0 in
-    let e = c.requires.1 in
-    sym (unsound _ _ _ _ _ _ w (λ f. c.if-total-v.true (ap (λ (n : ℕ). n + c.args.self.count) (total _ _ _ c.if-self.false c.requires.0.hist-wide c.total.ensures.0) ∙ sound-total _ _ _ _ _ _ _ w e f)))
-
-pub slice_bounds-all_distinct-end : goal.slice_bounds-all_distinct-end
-slice_bounds-all_distinct-end c = sym (length-take-le _ _ (omega (arith, c.if-self.false, c.requires.0.first-wide)))
+returns-then-total-v c = failed _ _ _ _ _ _ _ c.requires.0 c.requires.1 (λ p. c.if-total-v.true (ap (λ (n : ℕ). n + c.args.self.count) (total _ _ _ c.if-self.false c.requires.0.hist-wide c.total.ensures.0) ∙ p.total))
 
 pub returns-then-not-all_distinct : goal.returns-then-not-all_distinct
-returns-then-not-all_distinct c =
-    let w = c.requires.0 in
-    let e = c.requires.1 in
-    sym (unsound _ _ _ _ _ _ w (λ f. clash (sound-apart _ _ _ _ _ _ _ w e f) (sym c.all_distinct.ensures ∙ c.if-not-all_distinct.true)))
-
-pub slice_bounds-all_in-end : goal.slice_bounds-all_in-end
-slice_bounds-all_in-end c = sym (length-take-le _ _ (omega (arith, c.if-self.false, c.requires.0.first-wide)))
-
-pub slice_bounds-all_in-end-2 : goal.slice_bounds-all_in-end-2
-slice_bounds-all_in-end-2 c =
-    let n : length c.gather-marked.result ≡ slot_count = search rules in
-    sym (length-take-le _ _ (omega (arith, c.if-self.false)))
+returns-then-not-all_distinct c = failed _ _ _ _ _ _ _ c.requires.0 c.requires.1 (λ p. clash p.first-apart (sym c.all_distinct.ensures ∙ c.if-not-all_distinct.true))
 
 pub returns : goal.returns
 returns c =
