@@ -10,14 +10,32 @@ const SHORT: usize = 100;
 const APART: usize = 7;
 
 // The page of a text fed byte by byte.
-pub fn by_bytes(text: &[u8]) -> Page
-    ensures { result.len ≤ length result.bytes }
-{
+pub fn by_bytes(text: &[u8]) -> Page {
     let mut lister = Lister::new();
-    for &byte in text {
-        lister = lister.feed(&[byte]);
+    for i in 0..text.len() {
+        lister = lister.feed(&text[i..i + 1]);
     }
     lister.finish()
+}
+
+// The page of a text fed in three pieces, cut before byte a and before byte b.
+fn by_three(text: &[u8], a: usize, b: usize) -> Page
+    requires a_le_b { a ≤ b }
+    requires b_in_bounds { b ≤ length text.now }
+{
+    let none = Lister::new();
+    let first = none.feed(&text[0..a]);
+    let second = first.feed(&text[a..b]);
+    let third = second.feed(&text[b..]);
+    third.finish()
+}
+
+// The bytes from one place up to another, or none where there are not so many.
+pub fn part<'a>(bytes: &'a [u8], from: usize, to: usize) -> &'a [u8] {
+    if from <= to && to <= bytes.len() {
+        return &bytes[from..to];
+    }
+    &bytes[0..0]
 }
 
 // Whether the cutting before byte a and before byte b gives the output wanted.
@@ -25,12 +43,9 @@ fn gives(text: &[u8], a: usize, b: usize, wanted: &[u8]) -> bool
     requires a_le_b { a ≤ b }
     requires b_in_bounds { b ≤ length text.now }
 {
-    let mut lister = Lister::new();
-    for piece in [&text[..a], &text[a..b], &text[b..]] {
-        lister = lister.feed(piece);
-    }
-    let page = lister.finish();
-    &page.bytes[..page.len] == wanted
+    let page = by_three(text, a, b);
+    let bytes = page.bytes;
+    part(&bytes, 0, page.len) == wanted
 }
 
 // How many of the cuttings before byte b, and before each byte up to it whose place is a multiple of `apart`, give the
@@ -40,9 +55,11 @@ fn cut_at(text: &[u8], b: usize, apart: usize, wanted: &[u8], agree: bool) -> u6
     requires b_in_bounds { b ≤ length text.now }
 {
     let mut n: u64 = 0;
-    for a in (0..=b).step_by(apart) {
-        let same = gives(text, a, b, wanted);
-        n = n.wrapping_add(u64::from(same == agree));
+    for a in 0..=b {
+        if a % apart == 0 {
+            let same = gives(text, a, b, wanted);
+            n = std::num::wrapping_add_u64(n, (same == agree) as u64);
+        }
     }
     n
 }
@@ -51,7 +68,7 @@ fn cut_at(text: &[u8], b: usize, apart: usize, wanted: &[u8], agree: bool) -> u6
 fn threes(text: &[u8], wanted: &[u8], agree: bool) -> u64 {
     let mut n: u64 = 0;
     for b in 0..=text.len() {
-        n = n.wrapping_add(cut_at(text, b, 1, wanted, agree));
+        n = std::num::wrapping_add_u64(n, cut_at(text, b, 1, wanted, agree));
     }
     n
 }
