@@ -1,3 +1,4 @@
 mod Ways
 mod Whole
 mod Examples
+pub mod Numbered
