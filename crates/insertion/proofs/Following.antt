@@ -23,7 +23,9 @@ use Rattle.insertion_calls.proofs.Steps.{misses-most}
 use Rattle.insertion_calls.proofs.Trails.{trail-start, trail-cold, trail-top, trail-below, trail-above}
 use Rattle.insertion.specs.Passes.{Ready, Ahead, Small, with_newcomer, with_known, Followed}
 use Rattle.insertion.specs.declared.passes.Marks.{Marks}
-use Rattle.insertion.proofs.Holding.{row-wide, held_small, left-wide}
+use Rattle.std.proofs.Common.{None, Some}
+use Rattle.std.proofs.lemmas.Option.{none-some, same_Some}
+use Rattle.insertion.proofs.Holding.{row-wide, held_small}
 
 -- no more stand before a word than in all
 before-le : (x : ℕ) (s : List ℕ) → length (before x s) ≤ length s
@@ -70,15 +72,19 @@ module _ (stack : List ℕ) (n : ℕ) (reads : List ℕ) (x c : ℕ) where
 
     -- the reads up to the next one of x, or all
     pub follow-end : (i < length reads → get_or reads i 0 ≡ x)
-        → Followed stack n reads x c row (record { held = held; taken = i; marks = m })
+        → Followed stack n reads x c row (Some (record { held = held; taken = i; marks = m }))
     follow-end e = record {
-      wide = row-wide stack n reads row held i h.given h.run;
-      some = h.run.within;
-      over = λ o. absurd (omega (arith, held_small stack n reads row held i h.given h.run));
-      front = λ few. h.run.front;
-      trail = λ few. h.trail;
-      unread = h.unread;
-      again = λ few. e;
+      over = λ z. absurd (none-some _ (sym z));
+      some = λ t z.
+          rw (← same_Some _ _ z) (record {
+            wide = row-wide stack n reads row held i h.given h.run;
+            few = held_small stack n reads row held i h.given h.run;
+            some = h.run.within;
+            front = h.run.front;
+            trail = h.trail;
+            unread = h.unread;
+            again = e;
+          });
     }
 
     -- the next read
@@ -90,15 +96,10 @@ module _ (stack : List ℕ) (n : ℕ) (reads : List ℕ) (x c : ℕ) where
       -- the engine's answer r, and the words that it left
       module _ (r : Place) (left : List ℕ) (p : r ≡ place_of row held (get_or reads i 0)) (q : left ≡ left_by r held (get_or reads i 0) row) where
         -- there is no room
-        pub follow-full : r ≡ Full → Followed stack n reads x c left (record { held = max_extents + 1; taken = i; marks = m })
+        pub follow-full : r ≡ Full → Followed stack n reads x c left None
         follow-full e = record {
-          wide = left-wide stack n reads row held i h.given h.run l r left p q e;
-          some = h.run.within;
-          over = λ o. omega (arith, run-full stack n reads row held i h.run l (sym p ∙ e), h.given.wide);
-          front = λ few. absurd (omega arith);
-          trail = λ few. absurd (omega arith);
-          unread = h.unread;
-          again = λ few. absurd (omega arith);
+          over = λ z. omega (arith, run-full stack n reads row held i h.run l (sym p ∙ e), h.given.wide);
+          some = λ t z. absurd (none-some _ z);
         }
 
         -- a read of another extent

@@ -1,6 +1,6 @@
 -- Reads taken through the engine: how many extents are held.
 use mathlib.Core.Path.{◌≡◌, sym, ap, ◌∙◌}
-use Prim.Native.Nat.{ℕ, ◌+◌, ◌≤◌, ◌<◌}
+use Prim.Native.Nat.{ℕ, ◌≤◌, ◌<◌}
 use native.Mathlib.Omega.{arith}
 use mathlib.Core.List.{List}
 use lib.ListN.{length, get_or}
@@ -9,8 +9,10 @@ use Rattle.reuse_engine.specs.declared.Place.{Place}
 use Rattle.reuse_engine.specs.declared.Place.TheVariants.{Full}
 use Rattle.reuse.specs.Limits.{max_extents}
 use Rattle.reuse_engine.specs.Engine.{place_of, left_by}
-use Rattle.reuse_engine.proofs.Runs.{Running, run-full, run_end, held_fits}
+use Rattle.reuse_engine.proofs.Runs.{Running, run-full, held_fits}
 use Rattle.insertion.specs.Passes.{Ready, Held}
+use Rattle.std.proofs.Common.{None, Some}
+use Rattle.std.proofs.lemmas.Option.{none-some, same_Some}
 
 -- reads that are ready, the first i of them taken
 module _ (stack : List ℕ) (n : ℕ) (reads row : List ℕ) (held i : ℕ) (g : Ready stack n reads) (h : Running stack n reads row held i) where
@@ -23,11 +25,12 @@ module _ (stack : List ℕ) (n : ℕ) (reads row : List ℕ) (held i : ℕ) (g :
   held_small = omega (arith, held_fits stack n reads row held i h, row-wide)
 
   -- all are taken
-  pub hold-end : length reads ≤ i → Held stack n reads row held
+  pub hold-end : length reads ≤ i → Held stack n reads row (Some held)
   hold-end l = record {
     wide = row-wide;
-    extents = omega (arith, run_end stack n reads row held i h l, held_small);
-    front = λ few. rw (take_all i reads l) at h.front;
+    over = λ e. absurd (none-some _ (sym e));
+    few = λ k e. rw (← same_Some _ _ e) held_small;
+    front = λ k e. rw (← same_Some _ _ e) (rw (take_all i reads l) at h.front);
   }
 
   -- there is no room: what the engine leaves, and that the extents are over the limit
@@ -35,9 +38,10 @@ module _ (stack : List ℕ) (n : ℕ) (reads row : List ℕ) (held i : ℕ) (g :
     pub left-wide : length left ≡ max_extents
     left-wide = rw (q ∙ ap (λ (z : Place). left_by z held (get_or reads i 0) row) e) row-wide
 
-    pub hold-full : Held stack n reads left (max_extents + 1)
+    pub hold-full : Held stack n reads left None
     hold-full = record {
       wide = left-wide;
-      extents = omega (arith, run-full stack n reads row held i h l (sym p ∙ e), g.wide);
-      front = λ few. absurd (omega arith);
+      over = λ z. omega (arith, run-full stack n reads row held i h l (sym p ∙ e), g.wide);
+      few = λ k z. absurd (none-some _ z);
+      front = λ k z. absurd (none-some _ z);
     }

@@ -2,20 +2,19 @@
 use Rattle.std.specs.Prelude.{Ok, Err}
 use Rattle.reuse.specs.declared.refusals.Refusal.TheVariants.{TooManyExtents}
 use mathlib.Core.Path.{◌≡◌, refl, sym, ap, ◌∙◌}
-use Prim.Native.Nat.{ℕ, suc, ◌+◌, ◌-◌, ◌≤◌, ◌<◌, min}
+use Prim.Native.Nat.{ℕ, suc, ◌+◌, ◌-◌, ◌≤◌, ◌<◌}
 use native.Mathlib.Omega.{arith}
 use mathlib.Core.List.{List, [], ◌∷◌, ◌++◌, foldl, foldl-append}
-use mathlib.Core.Bool.{Bool, true, false, cond, ◌||◌, or-true, true≢false}
-use lib.Dec.{eqb, ltb}
-use lib.ListN.{length, take, drop, get_or, length-drop, take-append-drop}
+use mathlib.Core.Bool.{Bool, true, false, cond, ◌||◌, or-true}
+use lib.Dec.{ltb}
+use lib.ListN.{length, take, drop, get_or, length-append, length-drop, length-take, take-append-drop}
 use lib.Seq.{take_all, drop-cons, drop-drop, length-take-le}
-use borrow.Author.Tests.{ltb-true, ltb-false, lt-ltb, le-ltb}
+use borrow.Author.Tests.{ltb-true, ltb-false}
 use Rattle.reuse.specs.Limits.{max_reads, max_extents}
 use Rattle.reuse.specs.Lists.{mem, before, distinct, firsts}
 use Rattle.reuse.specs.Lru.{touch, stack}
 use Rattle.reuse.proofs.Lists.{by-test, eqb_same, mem-append}
 use Rattle.reuse.proofs.Stack.{length-stack, mem-stack, distinct_stack, distinct_from}
-use Rattle.reuse.proofs.Depth.{length_before}
 use Rattle.reuse.proofs.Newcomers.{stack-grows}
 use Rattle.insertion_calls.specs.Insertion.{put, change_of}
 use Rattle.insertion_calls.specs.Trails.{Trail, change_by}
@@ -23,26 +22,15 @@ use Rattle.insertion_calls.specs.Calls.{insertion_call}
 use Rattle.insertion_calls.proofs.Puts.{length-put, extents-put, mem-cut}
 use Rattle.insertion_calls.proofs.Told.{told-end, told-again}
 use Rattle.insertion_calls.proofs.Calls.{call-extents, call-change}
-use Rattle.insertion.specs.Passes.{Ready, Held, Ahead, Followed}
+use Rattle.insertion.specs.Passes.{Ready, Held, Ahead, Taken, Followed}
+use Rattle.std.proofs.Common.{Option, None, Some}
+use Rattle.std.specs.Option.{unwrap_or}
 use Rattle.insertion.specs.declared.passes.Traced.{Traced}
 
 -- a row before the first read
 ready-blank : (row reads : List ℕ) → length row ≡ max_extents → length reads ≤ max_reads → Ready row 0 reads
 unfolding distinct
 ready-blank row reads w s = record { wide = w; held = omega arith; once = refl; short = s }
-
--- all stand before what does not stand there
-before-absent : (x : ℕ) (s : List ℕ) → mem x s ≡ false → length (before x s) ≡ length s
-unfolding mem before
-before-absent x [] m = refl
-before-absent x (y ∷ s) m = by-test (eqb x y) (λ e. absurd (true≢false (sym (simp e) ∙ m))) (λ e. simp (e, before-absent x s (simp e at m)))
-
--- fewer stand before a word than in all exactly if it stands there
-ahead-known : (x : ℕ) (s : List ℕ) → ltb (length (before x s)) (length s) ≡ mem x s
-ahead-known x s =
-    by-test (mem x s)
-    (λ m. lt-ltb (length (before x s)) (length s) (length_before x s m) ∙ sym m)
-    (λ m. le-ltb (length (before x s)) (length s) (omega (arith, before-absent x s m)) ∙ sym m)
 
 -- a trace and a place in it
 module _ (t : List ℕ) (p : ℕ) (placed : p ≤ length t) (short : length t ≤ max_reads) where
@@ -70,89 +58,100 @@ module _ (t : List ℕ) (p : ℕ) (placed : p ≤ length t) (short : length t �
     plain_over m = sym (call-extents t p x c placed room (omega (arith, extents-put p x t, length-stack t)))
 
     -- after the reads before the place
-    module _ (blank row : List ℕ) (held : ℕ) (first : Held blank 0 (take p t) row held) where
-      -- what is held, to one more than the limit
-      held-is : held ≡ min (length here) (suc max_extents)
-      unfolding stack
-      held-is = first.extents
-
+    module _ (blank row : List ℕ) (told : Option ℕ) (first : Held blank 0 (take p t) row told) where
       -- too many extents
-      pub first-over : max_extents < held → Err TooManyExtents ≡ insertion_call t p x c
-      first-over o = plain_over (omega (arith, held-is, ap length plain-stack, stack-grows here (drop p t) (distinct_stack (take p t))))
+      pub first-over : told ≡ None → Err TooManyExtents ≡ insertion_call t p x c
+      unfolding stack
+      first-over o = plain_over (omega (arith, first.over o, ap length plain-stack, stack-grows here (drop p t) (distinct_stack (take p t))))
 
       -- not too many
-      module _ (few : held ≤ max_extents) where
+      module _ (held : ℕ) (is : told ≡ Some held) where
         -- the stack stands in the row
         at_here : take held row ≡ here
         unfolding stack
-        at_here = first.front few
+        at_here = first.front held is
 
-        -- the extents above x
-        module _ (ahead : ℕ) (found : ahead ≡ length (before x (take held row))) where
+        -- the extents above x, by its place in the stack
+        pub above-found : (place : Option ℕ) → unwrap_or place (length (take held row)) ≡ length (before x (take held row))
+            → unwrap_or place held ≡ length (before x (take held row))
+        above-found place e =
+            let q : length (take held row) ≡ held = length-take-le held row (omega (arith, first.wide, first.few held is)) in
+            sym (ap (unwrap_or place) q) ∙ e
+
+        -- the extents above x, and whether x was read before
+        module _ (ahead : ℕ) (found : ahead ≡ length (before x (take held row))) (known : Bool) (seen : known ≡ mem x (take held row)) where
           above-is : ahead ≡ length (before x here)
           above-is = rw at_here at found
+
+          known_is : known ≡ mem x here
+          known_is = rw at_here at seen
 
           -- the reads from the place on are ready to be followed
           pub follow-ready : Ahead row held (take (length t - p) (drop p t)) x ahead
           follow-ready = record {
             ready = record {
               wide = first.wide;
-              held = omega (arith, first.wide);
+              held = omega (arith, first.wide, first.few held is);
               once = rw at_here (distinct_stack (take p t));
               short = rw from_all (omega (arith, length-drop p t));
             };
             above = rw at_here above-is;
           }
 
-          -- x was read before, as the code has it
-          known_is : ltb ahead held ≡ mem x here
-          known_is = let e : held ≡ length here = omega (arith, held-is) in rw (above-is, e) (ahead-known x here)
-
           -- after the reads up to the next one of x
-          module _ (row₁ : List ℕ) (r : Traced) (second : Followed row held (take (length t - p) (drop p t)) x c row₁ r) where
+          module _ (row₁ : List ℕ) (told₁ : Option Traced) (second : Followed row held (take (length t - p) (drop p t)) x c row₁ told₁) where
             -- too many extents
-            pub second-over : max_extents < r.held → Err TooManyExtents ≡ insertion_call t p x c
+            pub second-over : told₁ ≡ None → Err TooManyExtents ≡ insertion_call t p x c
             second-over o = plain_over (rw plain-stack (rw (at_here, from_all) at (second.over o)))
 
-            -- the next read of x is at most one past the trace's last
-            pub next-within : p + r.taken ≤ length t
-            next-within = omega (arith, rw from_all at second.some, length-drop p t)
-
-            -- the reads up to it, and the others
-            abbrev near : List ℕ
-            near = take r.taken (drop p t)
-
-            abbrev far : List ℕ
-            far = drop r.taken (drop p t)
-
-            -- the others, as the code has them
-            far-all : take (length t - (p + r.taken)) (drop (p + r.taken) t) ≡ far
-            far-all =
-                take_all (length t - (p + r.taken)) (drop (p + r.taken) t) (omega (arith, length-drop (p + r.taken) t))
-                ∙ sym (drop-drop r.taken p t)
-
-            -- x is not among the first
-            near-unread : mem x near ≡ false
-            near-unread = rw from_all at second.unread
-
             -- not too many extents
-            module _ (few₁ : r.held ≤ max_extents) where
+            module _ (r : Traced) (is₁ : told₁ ≡ Some r) where
+              taken : Taken row held (take (length t - p) (drop p t)) x c row₁ r
+              taken = second.some r is₁
+
+              -- the next read of x is at most one past the trace's last
+              pub next-within : p + r.taken ≤ length t
+              next-within = omega (arith, rw from_all at taken.some, length-drop p t)
+
+              -- the reads up to it, and the others
+              abbrev near : List ℕ
+              near = take r.taken (drop p t)
+
+              abbrev far : List ℕ
+              far = drop r.taken (drop p t)
+
+              -- the others, as the code has them
+              far-all : take (length t - (p + r.taken)) (drop (p + r.taken) t) ≡ far
+              far-all =
+                  take_all (length t - (p + r.taken)) (drop (p + r.taken) t) (omega (arith, length-drop (p + r.taken) t))
+                  ∙ sym (drop-drop r.taken p t)
+
+              -- x is not among the first
+              near-unread : mem x near ≡ false
+              near-unread = rw from_all at taken.unread
+
               -- the stack after them stands in the row
               at-near : take r.held row₁ ≡ foldl touch here near
-              at-near = rw (at_here, from_all) at (second.front few₁)
+              at-near = rw (at_here, from_all) at taken.front
 
               -- the others are ready to be taken after it
               pub far-ready : Ready row₁ r.held (take (length t - (p + r.taken)) (drop (p + r.taken) t))
               far-ready = record {
-                wide = second.wide;
-                held = omega (arith, second.wide);
+                wide = taken.wide;
+                held = omega (arith, taken.wide, taken.few);
                 once = rw at-near (distinct_from here near (distinct_stack (take p t)));
                 short = rw far-all (omega (arith, length-drop r.taken (drop p t), length-drop p t));
               }
 
               -- the trail up to the next read of x
               near-trail : Trail here x c near r.marks.since r.marks.depth r.marks.spoiled
-              near-trail = rw (at_here, from_all) at (second.trail few₁)
+              near-trail = rw (at_here, from_all) at taken.trail
+
+              -- no more were read since than are held
+              pub since-small : r.marks.since ≤ max_extents
+              since-small =
+                  let e : take r.held row₁ ≡ near-trail.newer ++ near-trail.older = at-near ∙ near-trail.plain in
+                  omega (arith, near-trail.since-is, ap length e, length-append near-trail.newer near-trail.older, length-take r.held row₁, taken.few)
 
               -- x is read again, as the code has it
               abbrev again : Bool
@@ -162,7 +161,7 @@ module _ (t : List ℕ) (p : ℕ) (placed : p ≤ length t) (short : length t �
               cut : again ≡ true → drop p t ≡ near ++ (x ∷ drop (suc r.taken) (drop p t))
               cut e =
                   let l : r.taken < length (drop p t) = omega (arith, ltb-true (p + r.taken) (length t) e, length-drop p t) in
-                  let y : get_or (drop p t) r.taken 0 ≡ x = rw from_all at (second.again few₁ (rw from_all l)) in
+                  let y : get_or (drop p t) r.taken 0 ≡ x = rw from_all at (taken.again (rw from_all l)) in
                   sym (take-append-drop r.taken (drop p t)) ∙ ap (λ (w : List ℕ). near ++ w) (drop-cons (drop p t) r.taken 0 l ∙ rw y)
 
               -- and where it is not, these are all
@@ -178,11 +177,11 @@ module _ (t : List ℕ) (p : ℕ) (placed : p ≤ length t) (short : length t �
                   (λ e. ap (mem x) (sym (no_cut e)) ∙ near-unread ∙ sym e)
 
               -- x is one of the trace's extents
-              mem_is : mem x t ≡ (ltb ahead held || again)
+              mem_is : mem x t ≡ (known || again)
               mem_is = sym (mem-cut x p t) ∙ rw (known_is, again-is, mem-stack x (take p t))
 
               -- the change
-              change-is : change_of c p x t ≡ change_by (ltb ahead held) again (ahead + 1) r.marks.since r.marks.depth r.marks.spoiled c
+              change-is : change_of c p x t ≡ change_by known again (ahead + 1) r.marks.since r.marks.depth r.marks.spoiled c
               change-is =
                   let own : ahead + 1 ≡ suc (length (before x here)) = omega (arith, above-is) in
                   rw (known_is, own)
@@ -191,29 +190,34 @@ module _ (t : List ℕ) (p : ℕ) (placed : p ≤ length t) (short : length t �
                   (λ e. rw e (told-end c p x t r.marks.since r.marks.depth r.marks.spoiled (rw (no_cut e) at near-trail))))
 
               -- after the others
-              module _ (row₂ : List ℕ) (held₂ : ℕ) (third : Held row₁ r.held (take (length t - (p + r.taken)) (drop (p + r.taken) t)) row₂ held₂) where
-                -- the extents of the trace, to one more than the limit
-                all_held : held₂ ≡ min (length (firsts t)) (suc max_extents)
-                all_held =
-                    let s : stack t ≡ foldl touch (foldl touch here near) far =
-                    plain-stack ∙ ap (foldl touch here) (sym (take-append-drop r.taken (drop p t))) ∙ foldl-append touch here near far in
-                    rw (sym (length-stack t), s) (rw (at-near, far-all) at third.extents)
-
-                -- so they may be one more
-                pub held-most : held₂ ≤ suc max_extents
-                held-most = omega (arith, all_held)
-
-                -- those of the longer trace
-                longer-is : length (firsts (put p x t)) ≡ cond (ltb ahead held || again) 0 1 + length (firsts t)
-                longer-is = rw mem_is at (extents-put p x t)
+              module _ (row₂ : List ℕ) (told₂ : Option ℕ) (third : Held row₁ r.held (take (length t - (p + r.taken)) (drop (p + r.taken) t)) row₂ told₂) where
+                -- the stack after the others
+                all-stack : stack t ≡ foldl touch (foldl touch here near) far
+                all-stack = plain-stack ∙ ap (foldl touch here) (sym (take-append-drop r.taken (drop p t))) ∙ foldl-append touch here near far
 
                 -- too many extents
-                pub third-over : max_extents < cond (ltb ahead held || again) 0 1 + held₂ → Err TooManyExtents ≡ insertion_call t p x c
-                third-over o = sym (call-extents t p x c placed room (omega (arith, longer-is, all_held)))
+                pub third-over : told₂ ≡ None → Err TooManyExtents ≡ insertion_call t p x c
+                third-over o = plain_over (rw all-stack (rw (at-near, far-all) at (third.over o)))
 
-                -- not too many: the change
-                pub change-told : cond (ltb ahead held || again) 0 1 + held₂ ≤ max_extents
-                    → Ok (change_by (ltb ahead held) again (ahead + 1) r.marks.since r.marks.depth r.marks.spoiled c) ≡ insertion_call t p x c
-                change-told few₂ =
-                    ap Ok (sym change-is)
-                    ∙ sym (call-change t p x c placed (record { reads = omega (arith, length-put p x t); extents = omega (arith, longer-is, all_held) }))
+                -- not too many
+                module _ (held₂ : ℕ) (is₂ : told₂ ≡ Some held₂) where
+                  -- the extents of the trace
+                  all_held : held₂ ≡ length (firsts t)
+                  all_held =
+                      let e : take held₂ row₂ ≡ stack t = (rw (at-near, far-all) at (third.front held₂ is₂)) ∙ sym all-stack in
+                      omega (arith, ap length e, length-stack t, length-take-le held₂ row₂ (omega (arith, third.wide, third.few held₂ is₂)))
+
+                  -- those of the longer trace
+                  longer-is : length (firsts (put p x t)) ≡ cond (known || again) 0 1 + length (firsts t)
+                  longer-is = rw mem_is at (extents-put p x t)
+
+                  -- too many with the read put in
+                  pub longer-over : max_extents < cond (known || again) 0 1 + held₂ → Err TooManyExtents ≡ insertion_call t p x c
+                  longer-over o = sym (call-extents t p x c placed room (omega (arith, longer-is, all_held)))
+
+                  -- not too many: the change
+                  pub change-told : cond (known || again) 0 1 + held₂ ≤ max_extents
+                      → Ok (change_by known again (ahead + 1) r.marks.since r.marks.depth r.marks.spoiled c) ≡ insertion_call t p x c
+                  change-told few₂ =
+                      ap Ok (sym change-is)
+                      ∙ sym (call-change t p x c placed (record { reads = omega (arith, length-put p x t); extents = omega (arith, longer-is, all_held) }))

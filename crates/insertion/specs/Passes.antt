@@ -1,5 +1,6 @@
 -- What the private passes over reads rely on and leave.
-use Rattle.std.specs.Prelude.{ℕ, suc, ◌+◌, ◌≤◌, ◌<◌, min, ◌≡◌, true, false, cond, eqb, leb, ltb, length, take, get_or}
+use Rattle.std.specs.Prelude.{ℕ, suc, ◌+◌, ◌≤◌, ◌<◌, ◌≡◌, true, false, cond, eqb, leb, ltb, length, take, get_or, Some, None}
+use Rattle.std.specs.declared.option.Option.{Option}
 use mathlib.Core.List.{List, foldl}
 use Rattle.reuse.specs.Limits.{max_reads, max_extents}
 use Rattle.reuse.specs.Lists.{mem, before, distinct}
@@ -15,11 +16,12 @@ pub record Ready (stack : List ℕ) (n : ℕ) (reads : List ℕ) : Type 0 where
   pub once : distinct (take n stack) ≡ true
   pub short : length reads ≤ max_reads
 
--- the extents of the stack after the reads, counted to one more than the limit; within it the stack itself at the front of the row
-pub record Held (stack : List ℕ) (n : ℕ) (reads row : List ℕ) (held : ℕ) : Type 0 where
+-- the stack after the reads stands in so many words at the front of the row; none where its extents pass the limit
+pub record Held (stack : List ℕ) (n : ℕ) (reads row : List ℕ) (held : Option ℕ) : Type 0 where
   pub wide : length row ≡ max_extents
-  pub extents : held ≡ min (length (foldl touch (take n stack) reads)) (suc max_extents)
-  pub front : held ≤ max_extents → take held row ≡ foldl touch (take n stack) reads
+  pub over : held ≡ None → max_extents < length (foldl touch (take n stack) reads)
+  pub few : (k : ℕ) → held ≡ Some k → k ≤ max_extents
+  pub front : (k : ℕ) → held ≡ Some k → take k row ≡ foldl touch (take n stack) reads
 
 -- and so many extents stand above x, or in all where x does not stand there
 pub record Ahead (stack : List ℕ) (n : ℕ) (reads : List ℕ) (x ahead : ℕ) : Type 0 where
@@ -42,13 +44,18 @@ with_known m d c =
     cond (leb d m.since) m
     (cond (ltb m.depth d) (with_newcomer m) (record { since = m.since + 1; depth = m.depth; spoiled = m.spoiled + cond (eqb d c) 1 0 }))
 
--- the reads up to the next one of x are taken, all where there is none, or the stack is over the limit; within it the stack after them
--- stands in the row, and the marks are those of its trail
-pub record Followed (stack : List ℕ) (n : ℕ) (reads : List ℕ) (x c : ℕ) (row : List ℕ) (r : Traced) : Type 0 where
+-- the reads up to the next one of x are taken, all where there is none: the stack after them stands in the row, and the marks are
+-- those of its trail
+pub record Taken (stack : List ℕ) (n : ℕ) (reads : List ℕ) (x c : ℕ) (row : List ℕ) (r : Traced) : Type 0 where
   pub wide : length row ≡ max_extents
+  pub few : r.held ≤ max_extents
   pub some : r.taken ≤ length reads
-  pub over : max_extents < r.held → max_extents < length (foldl touch (take n stack) reads)
-  pub front : r.held ≤ max_extents → take r.held row ≡ foldl touch (take n stack) (take r.taken reads)
-  pub trail : r.held ≤ max_extents → Trail (take n stack) x c (take r.taken reads) r.marks.since r.marks.depth r.marks.spoiled
+  pub front : take r.held row ≡ foldl touch (take n stack) (take r.taken reads)
+  pub trail : Trail (take n stack) x c (take r.taken reads) r.marks.since r.marks.depth r.marks.spoiled
   pub unread : mem x (take r.taken reads) ≡ false
-  pub again : r.held ≤ max_extents → r.taken < length reads → get_or reads r.taken 0 ≡ x
+  pub again : r.taken < length reads → get_or reads r.taken 0 ≡ x
+
+-- they are taken so, or the stack is over the limit
+pub record Followed (stack : List ℕ) (n : ℕ) (reads : List ℕ) (x c : ℕ) (row : List ℕ) (r : Option Traced) : Type 0 where
+  pub over : r ≡ None → max_extents < length (foldl touch (take n stack) reads)
+  pub some : (t : Traced) → r ≡ Some t → Taken stack n reads x c row t

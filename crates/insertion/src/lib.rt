@@ -21,18 +21,20 @@ pub fn one_more(trace: &[u32], place: usize, extent: u32, size: u32) -> Result<i
         return Err(Refusal::TooManyReads);
     }
     let mut stack = [0u32; reuse::MAX_EXTENTS];
-    let before = passes::hold(&mut stack, 0, &trace[..place]);
-    if reuse::MAX_EXTENTS < before {
+    let Some(before) = passes::hold(&mut stack, 0, &trace[..place]) else {
         return Err(Refusal::TooManyExtents);
-    }
-    let ahead = passes::ahead(&stack[..before], extent);
-    let traced = passes::follow(&mut stack, before, &trace[place..], extent, size, ahead);
-    if reuse::MAX_EXTENTS < traced.held {
+    };
+    let found = passes::ahead(&stack[..before], extent);
+    let known = found.is_some();
+    let ahead = found.unwrap_or(before);
+    let Some(traced) = passes::follow(&mut stack, before, &trace[place..], extent, size, ahead)
+    else {
         return Err(Refusal::TooManyExtents);
-    }
+    };
     let next = place + traced.taken;
-    let held = passes::hold(&mut stack, traced.held, &trace[next..]);
-    let known = ahead < before;
+    let Some(held) = passes::hold(&mut stack, traced.held, &trace[next..]) else {
+        return Err(Refusal::TooManyExtents);
+    };
     let again = next < reads;
     let over = reuse::MAX_EXTENTS < passes::extents_with(held, known, again);
     if over {

@@ -1,7 +1,8 @@
 // Passes over the reads of a trace with one stack, and what they tell of the trace with a read put in.
-ghost use Rattle.std.specs.Prelude.{◌≡◌, true, cond, ◌||◌, suc, ◌+◌, ◌≤◌, length};
+ghost use Rattle.std.specs.Prelude.{◌≡◌, cond, ◌||◌, ◌+◌, ◌≤◌, pos, length, is_some};
+ghost use Rattle.std.specs.Option.{unwrap_or};
 ghost use Rattle.reuse.specs.Limits.{max_extents};
-ghost use Rattle.reuse.specs.Lists.{before};
+ghost use Rattle.reuse.specs.Lists.{mem, before};
 ghost use Rattle.insertion_calls.specs.Trails.{miss_at, change_by};
 ghost use Rattle.insertion.specs.Passes.{Ready, Held, Ahead, Small, Followed, with_newcomer, with_known};
 
@@ -16,7 +17,7 @@ pub struct Marks {
     pub spoiled: u32,
 }
 
-// The extents held after a pass, or one more than the limit, how many reads it took, and the marks then.
+// The extents held after a pass, how many reads it took, and the marks then.
 #[derive(Drop)]
 pub struct Traced {
     pub held: usize,
@@ -24,15 +25,16 @@ pub struct Traced {
     pub marks: Marks,
 }
 
-// How many words stand before the first one of the extent; all where there is none.
-pub fn ahead(row: &[u32], extent: u32) -> usize
-    ensures { result ≡ length (before extent row.now) }
+// How many words stand before the first one of the extent, where there is one.
+pub fn ahead(row: &[u32], extent: u32) -> Option<usize>
+    ensures known { is_some result ≡ mem extent row.now }
+    ensures above { unwrap_or result (length row.now) ≡ length (before extent row.now) }
 {
-    row.iter().position(|&x| x == extent).unwrap_or(row.len())
+    row.iter().position(|&x| x == extent)
 }
 
-// The reads are taken after the stack in the first n words: how many extents are held then, or one more than the limit.
-pub fn hold(stack: &mut [u32], n: usize, reads: &[u32]) -> usize
+// The reads are taken after the stack in the first n words: how many extents are held then; none where they pass the limit.
+pub fn hold(stack: &mut [u32], n: usize, reads: &[u32]) -> Option<usize>
     requires { Ready stack.old n reads.now }
     ensures { Held stack.old n reads.now stack.new result }
 {
@@ -45,18 +47,18 @@ pub fn hold(stack: &mut [u32], n: usize, reads: &[u32]) -> usize
             }
             Place::Depth(_) => {}
             Place::Full => {
-                return reuse::MAX_EXTENTS + 1;
+                return None;
             }
             Place::BadCount => {
-                return held;
+                return Some(held);
             }
         }
     }
-    held
+    Some(held)
 }
 
 // The reads up to the next one of the extent are taken so, from the place on, and marked. The stack and its count stay apart,
-// as `touch` promises on any slice and any count.
+// as `touch` promises on any slice and any count. None where the extents pass the limit.
 pub fn follow(
     stack: &mut [u32],
     n: usize,
@@ -64,7 +66,7 @@ pub fn follow(
     extent: u32,
     size: u32,
     ahead: usize,
-) -> Traced
+) -> Option<Traced>
     requires { Ahead stack.old n reads.now extent ahead }
     ensures { Followed stack.old n reads.now extent size stack.new result }
 {
@@ -72,7 +74,7 @@ pub fn follow(
     let mut marks = at_place(ahead);
     for (taken, &x) in reads.iter().enumerate() {
         if x == extent {
-            return Traced { held, taken, marks };
+            return Some(Traced { held, taken, marks });
         }
         let place = reuse_engine::touch(stack, held, x);
         match place {
@@ -84,19 +86,18 @@ pub fn follow(
                 marks = with_known(marks, d, size as usize);
             }
             Place::Full => {
-                let held = reuse::MAX_EXTENTS + 1;
-                return Traced { held, taken, marks };
+                return None;
             }
             Place::BadCount => {
-                return Traced { held, taken, marks };
+                return Some(Traced { held, taken, marks });
             }
         }
     }
-    Traced {
+    Some(Traced {
         held,
         taken: reads.len(),
         marks,
-    }
+    })
 }
 
 // The marks at the place, where so many extents stand above the one put in.
@@ -147,41 +148,30 @@ fn with_known(m: Marks, d: usize, size: usize) -> Marks
 }
 
 // A miss of a read of an extent at a depth, or of one that was not read before: 1, else 0.
-fn missed(known: bool, depth: usize, size: usize) -> u64
-    ensures { result ≡ miss_at known depth size }
+fn missed(known: bool, depth: usize, size: usize) -> i64
+    ensures { result ≡ pos (miss_at known depth size) }
 {
-    if known && depth <= size {
-        return 0;
-    }
-    1
-}
-
-// A miss of the next read of the extent put in, with that read: as many extents were read since.
-fn missed_again(since: usize, size: usize) -> u64
-    ensures { result ≡ miss_at true (suc since) size }
-{
-    if since < size {
-        return 0;
-    }
-    1
+    let hit = known && depth <= size;
+    i64::from(!hit)
 }
 
 // The change: a miss of the read put in, whose extent stood at the depth `own` if it was known, and the reads spoiled; where
-// the extent is read again, the misses of that read with the read put in less those without it.
+// the extent is read again, the misses of that read with the read put in, where it stands below the extents read since, less
+// those without it.
 pub fn change(known: bool, again: bool, own: usize, marks: Marks, size: usize) -> i64
+    requires { marks.since ≤ max_extents }
     ensures { result ≡ change_by known again own marks.since marks.depth marks.spoiled size }
 {
-    let with = missed(known, own, size) + marks.spoiled as u64;
+    let with = missed(known, own, size) + i64::from(marks.spoiled);
     if !again {
-        return with as i64;
+        return with;
     }
-    let then = with + missed_again(marks.since, size);
-    then as i64 - missed(known, marks.depth, size) as i64
+    with + missed(true, marks.since + 1, size) - missed(known, marks.depth, size)
 }
 
 // The extents of the trace with the read put in, of those of the trace without it: one more where its extent is new.
 pub fn extents_with(held: usize, known: bool, again: bool) -> usize
-    requires { held ≤ suc max_extents }
+    requires { held ≤ max_extents }
     ensures { result ≡ cond (known || again) 0 1 + held }
 {
     if known || again {
