@@ -5,7 +5,7 @@ ghost use Rattle.std.specs.Prelude.{◌≡◌};
 ghost use Rattle.listing_soundness.specs.Soundness.{holds_line, holds_tally, refuses_text, holds_phase};
 
 use listing_tally::{LONGEST, Phase};
-use reuse::MAX_EXTENTS;
+use reuse::{MAX_EXTENTS, Refusal};
 
 // Whether the first `held` bytes begin a line, and 0 stands after them.
 pub fn holds_line(line: [u8; LONGEST], held: usize) -> bool
@@ -41,7 +41,7 @@ pub fn holds_tally(
     if !reuse_tables::all_distinct(&stack[..extents]) {
         return false;
     }
-    if extents as u64 + reuse_rows::total(&counts[..extents]) != reads as u64 {
+    if extents as u64 + reuse_rows::total(&counts[..extents]) != u64::from(reads) {
         return false;
     }
     if !reuse_rows::all_zero(&stack[extents..]) {
@@ -50,21 +50,18 @@ pub fn holds_tally(
     reuse_rows::all_zero(&counts[extents..])
 }
 
-// Whether a log text is refused with this number.
+// Whether a log text is refused with this number. The four stand in a pattern of their own: of a pattern `Ok(A | B)` the proof
+// is not told which of them it was.
 fn refuses_text(n: u32) -> bool
     ensures { result ≡ refuses_text n }
 {
-    if n == 1 {
-        return true;
-    }
-    if n == 2 {
-        return true;
-    }
-    let reads_past = n == 8;
-    if reads_past {
-        return true;
-    }
-    n == 9
+    let Ok(refusal) = Refusal::try_from(n) else {
+        return false;
+    };
+    matches!(
+        refusal,
+        Refusal::FaultyLine | Refusal::OutOfRange | Refusal::TooManyReads | Refusal::TooManyExtents
+    )
 }
 
 // Whether so many bytes held and so many reads go with how far the text is.

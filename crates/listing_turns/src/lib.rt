@@ -20,12 +20,7 @@ pub struct Turn {
 pub fn stopped(phase: Phase) -> bool
     ensures { result ≡ is_stopped phase }
 {
-    match phase {
-        Phase::Empty => false,
-        Phase::Inside => false,
-        Phase::Whole => false,
-        Phase::Stopped(_) => true,
-    }
+    matches!(phase, Phase::Stopped(_))
 }
 
 // The turn after a line: on to the next one, or past the whole piece where the text is refused.

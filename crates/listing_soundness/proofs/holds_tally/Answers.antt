@@ -58,7 +58,7 @@ slice_bounds-total-end c = sym (length-take-le c.args.extents c.args.counts (ome
 
 pub returns-then-extents-total : goal.returns-then-extents-total
 returns-then-extents-total c =
-    tally-other c.args.reads c.args.extents c.args.stack c.args.counts c.if-extents-gt-MAX_EXTENTS.false c.if-many.false (once (goal.at.returns-then-extents-total c).Else-not-all_distinct) c.total.result (total-is (goal.at.returns-then-extents-total c).After-total) c.if-extents-total.true
+    tally-other c.args.reads c.args.extents c.args.stack c.args.counts c.if-extents-gt-MAX_EXTENTS.false c.if-many.false (once (goal.at.returns-then-extents-total c).Else-not-all_distinct) c.total.result (total-is (goal.at.returns-then-extents-total c).After-total) (rw c.from.ensures at c.if-extents-total.true)
 
 pub slice_bounds-all_zero-end : goal.slice_bounds-all_zero-end
 slice_bounds-all_zero-end c = omega (arith, stack-wide (goal.at.slice_bounds-all_zero-end c).Start, c.if-extents-gt-MAX_EXTENTS.false)
@@ -67,7 +67,7 @@ pub returns-then-not-all_zero : goal.returns-then-not-all_zero
 returns-then-not-all_zero c =
     let f : c.all_zero.result ≡ false = c.if-not-all_zero.true in
     let z : c.all_zero.result ≡ blank (drop c.args.extents c.args.stack) = c.all_zero.ensures ∙ ap blank (rest c.args.extents c.args.stack (stack-wide (goal.at.returns-then-not-all_zero c).Start)) in
-    tally-left c.args.reads c.args.extents c.args.stack c.args.counts c.if-extents-gt-MAX_EXTENTS.false c.if-many.false (once (goal.at.returns-then-not-all_zero c).Else-not-all_distinct) c.total.result (total-is (goal.at.returns-then-not-all_zero c).After-total) c.if-extents-total.false false _ (sym f ∙ z) refl
+    tally-left c.args.reads c.args.extents c.args.stack c.args.counts c.if-extents-gt-MAX_EXTENTS.false c.if-many.false (once (goal.at.returns-then-not-all_zero c).Else-not-all_distinct) c.total.result (total-is (goal.at.returns-then-not-all_zero c).After-total) (rw c.from.ensures at c.if-extents-total.false) false _ (sym f ∙ z) refl
 
 pub slice_bounds-all_zero-end-2 : goal.slice_bounds-all_zero-end-2
 slice_bounds-all_zero-end-2 c = omega (arith, counts-wide (goal.at.slice_bounds-all_zero-end-2 c).Start, c.if-extents-gt-MAX_EXTENTS.false)
@@ -76,4 +76,4 @@ pub returns : goal.returns
 returns c =
     let f : c.all_zero.result ≡ true = c.if-not-all_zero.false in
     let z : c.all_zero.result ≡ blank (drop c.args.extents c.args.stack) = c.all_zero.ensures ∙ ap blank (rest c.args.extents c.args.stack (stack-wide (goal.at.returns c).Start)) in
-    tally-left c.args.reads c.args.extents c.args.stack c.args.counts c.if-extents-gt-MAX_EXTENTS.false c.if-many.false (once (goal.at.returns c).Else-not-all_distinct) c.total.result (total-is (goal.at.returns c).After-total) c.if-extents-total.false true _ (sym f ∙ z) (c.all_zero-2.ensures ∙ ap blank (rest c.args.extents c.args.counts (counts-wide (goal.at.returns c).Start)))
+    tally-left c.args.reads c.args.extents c.args.stack c.args.counts c.if-extents-gt-MAX_EXTENTS.false c.if-many.false (once (goal.at.returns c).Else-not-all_distinct) c.total.result (total-is (goal.at.returns c).After-total) (rw c.from.ensures at c.if-extents-total.false) true _ (sym f ∙ z) (c.all_zero-2.ensures ∙ ap blank (rest c.args.extents c.args.counts (counts-wide (goal.at.returns c).Start)))
