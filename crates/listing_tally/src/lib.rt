@@ -14,9 +14,6 @@ use reuse_engine::Place;
 // The bytes of the longest line.
 pub const LONGEST: usize = 19;
 
-// The largest extent.
-const MAX_EXTENT: u64 = 4294967295;
-
 // How far a text is: before its first line, inside the trace, at its end, or refused with this number.
 #[derive(Clone, Copy, PartialEq, Eq)]
 pub enum Phase {
@@ -80,18 +77,17 @@ fn take_read(
     ensures { stands_at result stack.new counts.new ≡ read_taken progress.reads progress.extents stack.old counts.old x ends }
 {
     let Progress { reads, extents, .. } = progress;
-    let wide = MAX_EXTENT < x;
     let full = reuse::MAX_READS <= reads;
-    if wide {
+    let Ok(extent) = u32::try_from(x) else {
         return progress.refused(Refusal::OutOfRange);
-    }
+    };
     if full {
         return progress.refused(Refusal::TooManyReads);
     }
     if counts.len() < stack.len() {
         return progress.refused(Refusal::Unsound);
     }
-    let place = reuse_engine::touch(stack, extents, x as u32);
+    let place = reuse_engine::touch(stack, extents, extent);
     match place {
         Place::Cold => {
             counts[extents] = 0;
