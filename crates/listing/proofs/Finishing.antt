@@ -15,10 +15,10 @@ use lib.ListN.{length, take}
 use lib.Seq.{length-take-le}
 use borrow.Author.Tests.{eqb-true}
 use Rattle.reuse.proofs.Lists.{by-test}
-use Rattle.texts.specs.Lines.{Answer, to, no, at, stopped, Read, got, refused, finish_by}
+use Rattle.texts.specs.Lines.{Answer, to, no, at, stopped, finish_by}
 use Rattle.texts.proofs.Tests.{never}
 use Rattle.texts.specs.Logs.{empty, inside, whole}
-use Rattle.listing_texts.specs.Feeding.{Taken, State, taken_whole, printed_by, printed_at, verdict_by, verdict_at, state_by}
+use Rattle.listing_texts.specs.Feeding.{Taken, State, taken_whole, printed_at, verdict_at, state_by}
 use Rattle.listing_texts.specs.Listings.{listed, refused_text}
 use Rattle.listing_tally.specs.Rows.{Tallied, tally_in, taken_by}
 use Rattle.listing_turns.proofs.Turns.{state_in}

@@ -1,5 +1,5 @@
 -- A text that the reader refused, or read as a plan.
-use Rattle.std.specs.Prelude.{Result, Ok, Err}
+use Rattle.std.specs.Prelude.{Ok, Err}
 use Rattle.reuse.specs.declared.refusals.Refusal.{Refusal}
 use Rattle.reuse.specs.Refusals.{refusal_with}
 use Rattle.plan_reader.specs.declared.PlanRead.{PlanRead}

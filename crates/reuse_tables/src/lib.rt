@@ -69,7 +69,9 @@ fn beyond(words: &[u32], x: u32) -> bool
     reuse_rows::contains(&words[MAX_EXTENTS..], x)
 }
 
-// Whether no word stands twice: only words that fall to one place of a table are compared.
+// Whether no word stands twice: only words that fall to one place of a table are compared. Not inlined: beside the table of
+// all_in, its own would take a summary's test past the first cache.
+#[inline(never)]
 pub fn all_distinct(words: &[u32]) -> bool
     ensures { result ≡ distinct words.now }
 {

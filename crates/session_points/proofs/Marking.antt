@@ -70,10 +70,6 @@ module _ (N count : ℕ) (R : List ℕ) (mark p less : ℕ) where
     pub marking-point : p / 2 + 1 < N
     marking-point = let w = next in place-inner N p (levels - (k + 1)) w.b w.s w.place
 
-    -- what is added fits
-    pub marking-fits : less + 2 ^ 32 ≤ levels * 2 ^ 32
-    marking-fits = omega (arith, u.small)
-
   -- the root has the count
   pub marking-end : (d : ℕ) → d ≡ 0 → Marking d N count R mark p less → count - less ≡ mark
   unfolding total_at

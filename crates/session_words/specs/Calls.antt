@@ -1,6 +1,6 @@
 -- What the calls on words that hold a session answer and leave.
 use Rattle.summary_calls.specs.declared.HitShare.{HitShare}
-use Rattle.std.specs.Prelude.{ℕ, Bool, true, false, cond, List, leb, length, Result, Ok, Err}
+use Rattle.std.specs.Prelude.{ℕ, cond, List, leb, length, Result, Ok, Err}
 use Rattle.reuse.specs.declared.refusals.Refusal.{Refusal}
 use Rattle.reuse.specs.declared.refusals.Refusal.TheVariants.{Unsound}
 use Rattle.reuse_rows.specs.Rows.{put_at}
@@ -8,7 +8,6 @@ use Rattle.summary_calls.specs.Calls.{Wrote, wrote, refused}
 use Rattle.session.specs.declared.Session.{Session}
 use Rattle.session.specs.declared.Step.{Step}
 use Rattle.session_calls.specs.declared.Answer.{Answer}
-use Rattle.session_calls.specs.declared.Answer.TheVariants.{Cold, Distance}
 use Rattle.session.specs.Sessions.{fresh}
 use Rattle.session.specs.Reads.{refused as read_refused, read_of}
 use Rattle.session_summary.specs.Summaries.{summary_call, misses_call, share_call}

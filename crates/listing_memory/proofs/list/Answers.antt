@@ -1,6 +1,7 @@
 -- `listing_memory::list` meets its contract.
+use mathlib.Core.List.{List}
 use mathlib.Core.Path.{◌≡◌, sym, ap, ◌∙◌}
-use Prim.Native.Nat.{◌+◌, ◌≤◌}
+use Prim.Native.Nat.{ℕ, ◌+◌, ◌≤◌}
 use native.Mathlib.Omega.{arith}
 use lib.ListN.{length, take}
 use lib.Seq.{length-take-le}
@@ -20,23 +21,24 @@ use Rattle.listing.proofs.Cuttings.{printed-whole, verdict-whole}
 use Rattle.listing_memory.proofs.Listed.{list-refused, list-short, list_all}
 use borrow.Author.Rules.{rules}
 use Rattle.listing_memory.proofs.list.Goals as goal
-use Rattle.listing_memory.proofs.list.Goals.{After-finish-page, After-verdict}
+use Rattle.listing_memory.proofs.list.Goals.{After-finish-page}
 
--- the lister is a new one, fed the text
-fed-is : (c : After-verdict) → c.feed-lister.result ≡ fed_of empty_lister c.args.text.now
-fed-is c = c.feed-lister.ensures ∙ ap (λ (l : Lister). fed_of l c.args.text.now) c.new.ensures
+-- a new lister, fed the text
+module _ (l new : Lister) (text : List ℕ) (fed : l ≡ fed_of new text) (is : new ≡ empty_lister) where
+  fed-new : l ≡ fed_of empty_lister text
+  fed-new = fed ∙ ap (λ (n : Lister). fed_of n text) is
 
--- it is judged as the text's definition says
-judged : (c : After-verdict) → c.verdict.result ≡ verdict_by (log_of c.args.text.now)
-judged c = c.verdict.ensures ∙ ap (λ (l : Lister). verdict_at (state_of l)) (fed-is c) ∙ verdict-whole c.args.text.now
+  -- it is judged as the text's definition says
+  judged : verdict_at (state_of l) ≡ verdict_by (log_of text)
+  judged = ap (λ (n : Lister). verdict_at (state_of n)) fed-new ∙ verdict-whole text
 
--- and printed so
+  -- and printed so
+  prints : printed_at (state_of l) ≡ listing_of text
+  prints = ap (λ (n : Lister). printed_at (state_of n)) fed-new ∙ printed-whole text
+
+-- the text is printed
 printed : (c : After-finish-page) → take c.finish-page.result.len c.finish-page.result.bytes ≡ listing_of c.args.text.now
-printed c =
-    let fed : c.feed-lister.result ≡ fed_of empty_lister c.args.text.now = c.feed-lister.ensures ∙ ap (λ (l : Lister). fed_of l c.args.text.now) c.new.ensures in
-    page-shows c.feed-lister.result c.finish-page.result c.finish-page.ensures.prints
-    ∙ ap (λ (l : Lister). printed_at (state_of l)) fed
-    ∙ printed-whole c.args.text.now
+printed c = page-shows c.feed-lister.result c.finish-page.result c.finish-page.ensures.prints ∙ prints _ _ _ c.feed-lister.ensures c.new.ensures
 
 -- the page holds what was printed
 holds : (c : After-finish-page) → c.finish-page.result.len ≤ length c.finish-page.result.bytes
@@ -44,13 +46,12 @@ holds c = let w : length c.finish-page.result.bytes ≡ page_bytes = search rule
 
 -- the text is listed
 listed : (c : After-finish-page) → verdict_by (log_of c.args.text.now) ≡ Ok tt
-listed c =
-    let fed : c.feed-lister.result ≡ fed_of empty_lister c.args.text.now = c.feed-lister.ensures ∙ ap (λ (l : Lister). fed_of l c.args.text.now) c.new.ensures in
-    sym (c.verdict.ensures ∙ ap (λ (l : Lister). verdict_at (state_of l)) fed ∙ verdict-whole c.args.text.now) ∙ c.in_ok-verdict.was
+listed c = sym (c.verdict.ensures ∙ judged _ _ _ c.feed-lister.ensures c.new.ensures) ∙ c.in_ok-verdict.was
 
 pub returns-then-out-page : goal.returns-then-out-page
 returns-then-out-page c =
-    let e = list-short c.args.out.now _ c.finish-page.result.bytes c.finish-page.result.len (listed (goal.at.returns-then-out-page c).After-finish-page) (holds (goal.at.returns-then-out-page c).After-finish-page) (printed (goal.at.returns-then-out-page c).After-finish-page) c.if-out-page.true in
+    let b = (goal.at.returns-then-out-page c).After-finish-page in
+    let e = list-short c.args.out.now _ c.finish-page.result.bytes c.finish-page.result.len (listed b) (holds b) (printed b) c.if-out-page.true in
     (sym (ap (λ (v : Wrote). v.answer) e), sym (ap (λ (v : Wrote). v.buffer) e))
 
 pub shared_ref_as_front-put : goal.shared_ref_as_front-put
@@ -63,15 +64,16 @@ slice_bounds-put-end c = sym (length-take-le _ _ (holds (goal.at.slice_bounds-pu
 
 pub returns-in_err-verdict : goal.returns-in_err-verdict
 returns-in_err-verdict c =
-    let e = list-refused c.args.out.now c.args.text.now _ (sym (judged (goal.at.returns-in_err-verdict c).After-verdict) ∙ c.in_err-verdict.was) in
+    let e = list-refused c.args.out.now c.args.text.now _ (sym (c.verdict.ensures ∙ judged _ _ _ c.feed-lister.ensures c.new.ensures) ∙ c.in_err-verdict.was) in
     (handed_on _ _ c.from_residual.ensures.1 ∙ sym (ap (λ (v : Wrote). v.answer) e), sym (ap (λ (v : Wrote). v.buffer) e))
 
 pub returns : goal.returns
 returns c =
     let o = c.args.out.now in
-    let n : length (take c.finish-page.result.len c.finish-page.result.bytes) ≡ c.finish-page.result.len = length-take-le _ _ (holds (goal.at.returns c).After-finish-page) in
+    let b = (goal.at.returns c).After-finish-page in
+    let n : length (take c.finish-page.result.len c.finish-page.result.bytes) ≡ c.finish-page.result.len = length-take-le _ _ (holds b) in
     let w : 0 + length (take c.finish-page.result.len c.finish-page.result.bytes) ≤ length o = omega (arith, n, c.if-out-page.false) in
-    let e = list_all o _ c.finish-page.result.bytes c.finish-page.result.len (listed (goal.at.returns c).After-finish-page) (holds (goal.at.returns c).After-finish-page) (printed (goal.at.returns c).After-finish-page) c.if-out-page.false in (
+    let e = list_all o _ c.finish-page.result.bytes c.finish-page.result.len (listed b) (holds b) (printed b) c.if-out-page.false in (
       sym (ap (λ (v : Wrote). v.answer) e),
-      c.put.ensures ∙ placed-fits _ 0 _ w ∙ ap (put_at o 0) (printed (goal.at.returns c).After-finish-page) ∙ sym (ap (λ (v : Wrote). v.buffer) e),
+      c.put.ensures ∙ placed-fits _ 0 _ w ∙ ap (put_at o 0) (printed b) ∙ sym (ap (λ (v : Wrote). v.buffer) e),
     )

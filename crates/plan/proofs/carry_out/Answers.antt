@@ -1,9 +1,8 @@
 -- `plan::carry_out` meets its contract.
-use mathlib.Core.Path.{◌≡◌, sym}
+use mathlib.Core.Path.{◌≡◌}
 use Prim.Native.Nat.{◌+◌, ◌*◌, ◌≤◌}
 use native.Mathlib.Omega.{arith}
 use lib.ListN.{length}
-use lib.Seq.{length-take-le}
 use Rattle.reuse.specs.Traces.{Within}
 use Rattle.reuse.specs.Lists.{firsts}
 use Rattle.reuse.proofs.Traces.{extents-exact, extents-within, extents-over}
@@ -72,9 +71,6 @@ evaluate-done-requires c =
     let w = within k.Else-extents-gt-MAX_EXTENTS in
     let e = counted k.Else-extents-gt-MAX_EXTENTS in
     (there k.Else-out-extents w e, roomy c.args.text.now c.args.log.now c.args.work.now c.args.out.now c.requires.plan c.requires.read c.requires.covers w c.args.depth c.requires.deepens (levels k.Else-out-extents) (room k.Else-out-extents e))
-
-pub slice_bounds-clear-end-2 : goal.slice_bounds-clear-end-2
-slice_bounds-clear-end-2 c = sym (length-take-le _ _ (omega (arith, c.evaluate-done.auto.work)))
 
 pub returns : goal.returns
 returns c =

@@ -3,7 +3,7 @@ use mathlib.Core.Path.{subst, ◌∙◌}
 use native.Mathlib.Omega.{arith}
 use lib.ListN.{length}
 use Rattle.texts.specs.Limits.{max_joins}
-use Rattle.std.specs.Prelude.{Ok, Err}
+use Rattle.std.specs.Prelude.{Ok}
 use Rattle.reuse.proofs.Told.{handed_on}
 use Rattle.plan_reader.specs.Answers.{FormWithin, FormIs}
 use Rattle.plan_reader.proofs.Whole.{too_long_lem, refused, followed, whole}

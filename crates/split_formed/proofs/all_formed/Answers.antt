@@ -1,4 +1,3 @@
--- `split_formed::all_formed` meets its contract.
 use mathlib.Core.Path.{refl, sym, ◌∙◌}
 use native.Mathlib.Omega.{arith}
 use Rattle.split_calls.proofs.Cuts.{formed-none}

@@ -23,12 +23,6 @@ misses_row-own-requires c = record { few = (known c).few; long = (known c).long 
 pub bounds-words-1 : goal.bounds-words-1
 bounds-words-1 c = omega (arith, (known (goal.at.bounds-words-1 c).Else-not-fits).long)
 
-pub overflow_cast-v : goal.overflow_cast-v
-overflow_cast-v c = record { fits = omega (arith, (known (goal.at.overflow_cast-v c).Else-not-fits).few) }
-
-pub offset_bounds-own-base : goal.offset_bounds-own-base
-offset_bounds-own-base c = record { fits = omega (arith, c.min-base.ensures, (known (goal.at.offset_bounds-own-base c).Else-not-fits).few) }
-
 pub slice_bounds-fill-count : goal.slice_bounds-fill-count
 slice_bounds-fill-count c = omega (arith, c.min-base.ensures, (known (goal.at.slice_bounds-fill-count c).Else-not-fits).few)
 

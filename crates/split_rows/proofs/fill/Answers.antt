@@ -1,4 +1,3 @@
--- `split_rows::fill` meets its contract.
 use Rattle.split_rows.proofs.Filling.{filling-start, filling-tries, filling-turn, filling-end}
 use Rattle.std.proofs.Common.{arith}
 use Rattle.split_rows.proofs.fill.Goals as goal

@@ -1,4 +1,3 @@
--- `split_rows::least_sum` meets its contract.
 use Rattle.std.proofs.Common.{◌≡◌, ◌-◌, arith}
 use Rattle.split_calls.specs.Tables.{lowest}
 use Rattle.split_rows.proofs.Lowest.{lowest-turn, lowest_upto}

@@ -1,4 +1,3 @@
--- `split_rows::misses_row` meets its contract.
 use Rattle.split_rows.proofs.Counting.{counted_start, counted-turn, counted-end}
 use Rattle.std.proofs.Common.{refl, arith}
 use Rattle.split_rows.proofs.misses_row.Goals as goal

@@ -1,4 +1,3 @@
--- `listing::Lister::feed` meets its contract.
 use mathlib.Core.Path.{◌≡◌, refl, sym, ap, ◌∙◌}
 use native.Mathlib.Omega.{arith}
 use mathlib.Core.Bool.{true, false}
@@ -35,20 +34,11 @@ loop-turn-init c =
     fed-start a.bytes.now (state_in a.self.phase a.self.reads a.self.extents a.self.stack a.self.counts (take a.self.held a.self.line)) a.self.phase a.self.line a.self.held a.self.reads a.self.extents a.self.stack a.self.counts
     refl f.0 (search rules) f.1 s.0
 
-pub slice_bounds-advance-end : goal.slice_bounds-advance-end
-slice_bounds-advance-end c = sym c.loop-turn.invariant.tally.stack-wide
-
-pub slice_bounds-advance-end-in-loop-turn : goal.slice_bounds-advance-end-in-loop-turn
-slice_bounds-advance-end-in-loop-turn c = sym c.loop-turn.invariant.tally.counts-wide
-
 pub loop-turn-smaller : goal.loop-turn-smaller
 loop-turn-smaller c = let t = fed-on _ _ _ _ _ _ _ _ _ _ c.loop-turn.invariant (omega arith) _ _ _ c.advance-turn.ensures in omega (arith, t.forward, t.inside)
 
 pub loop-turn-preserved : goal.loop-turn-preserved
 loop-turn-preserved c = fed-turn _ _ _ _ _ _ _ _ _ _ c.loop-turn.invariant (omega arith) _ _ _ c.advance-turn.ensures
-
-pub stands-requires : goal.stands-requires
-stands-requires c = let f = c.loop-turn.invariant in (f.fits, f.tally.few)
 
 pub returns : goal.returns
 returns c =

@@ -10,7 +10,7 @@ use Rattle.listing_texts.proofs.RowLaws.{page-listed}
 use Rattle.listing_pages.specs.Texts.{page_of}
 use Rattle.listing_tally.specs.Rows.{Tallied}
 use Rattle.listing.specs.Listers.{state_of}
-use Rattle.std.specs.Prelude.{Ok, Err}
+use Rattle.std.specs.Prelude.{Ok}
 use Rattle.listing_texts.specs.Listings.{refused_text}
 use Rattle.listing.proofs.Listers.{Wide}
 use Rattle.listing.proofs.Soundness.{sound-facts}

@@ -1,4 +1,3 @@
--- `plan_reader::forms::form` and `plan_reader::forms::parts` meet their contracts.
 use mathlib.Core.Path.{subst}
 use Rattle.reuse.proofs.Told.{handed_on}
 use Prim.Native.Nat.{suc, ◌+◌}

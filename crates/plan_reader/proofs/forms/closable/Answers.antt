@@ -11,8 +11,5 @@ later : (most count : ℕ) → (count ≡ 0 → ⊥) → most + 1 ≡ closable_a
 later most zero h = absurd (h refl)
 later most (suc count) h = add-one most
 
-pub returns-then-count-eq0 : goal.returns-then-count-eq0
-returns-then-count-eq0 c = (rw c.if-count-eq0.true, omega arith)
-
 pub returns-else-count-eq0 : goal.returns-else-count-eq0
 returns-else-count-eq0 c = (later _ _ c.if-count-eq0.false, omega arith)

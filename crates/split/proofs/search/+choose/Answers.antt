@@ -1,18 +1,12 @@
--- `split::search::choose` meets its contract. It calls itself with one customer less.
 use Rattle.reuse_rows.proofs.Parts.{back-length}
 use mathlib.Core.Path.{◌≡◌, ◌∙◌}
 use borrow.Rule.Slice.PartMut.{mid_len}
 use Rattle.split.proofs.Choosing.{chosen_none, seeking, choosing-rest, chosen-all}
 use lib.ListN.{length, set, length-set}
 use native.Mathlib.Omega.{arith}
-use Prim.Native.Nat.{ℕ, ◌-◌, ◌≤◌}
+use Prim.Native.Nat.{ℕ, ◌-◌}
 use Rattle.split.proofs.search.+choose.Goals as goal
-use Rattle.split.proofs.search.+choose.Goals.{After-share_at-share, After-slice_known-2-1}
-
--- there is a word for the first share
-word : (t : ℕ) (c : After-share_at-share t) →
-    let a = c.args in 1 ≤ length (set a.shares.now 0 c.share_at-share.result)
-word t c = omega (arith, length-set c.args.shares.now 0 c.share_at-share.result, c.requires.2.room)
+use Rattle.split.proofs.search.+choose.Goals.{After-slice_known-2-1}
 
 -- the others' words come back as many
 long : (t : ℕ) (c : After-slice_known-2-1 t) →
@@ -39,7 +33,8 @@ choose-requires t c =
 pub shape_of-shares : goal.shape_of-shares
 shape_of-shares t c =
     let r = c.share_at-share.result in
-    back-length 1 (set c.args.shares.now 0 r) c.choose.new.shares (word t (goal.at.shape_of-shares t c).After-share_at-share) (long t c) ∙ length-set c.args.shares.now 0 r
+    let n = length-set c.args.shares.now 0 r in
+    back-length 1 (set c.args.shares.now 0 r) c.choose.new.shares (omega (arith, n, c.requires.2.room)) (long t c) ∙ n
 
 pub returns : goal.returns
 returns t c =

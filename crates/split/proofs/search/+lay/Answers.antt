@@ -1,4 +1,3 @@
--- `split::search::lay` meets its contract. It calls itself with one customer less.
 use Rattle.split.specs.Search.{TableLaid}
 use Rattle.split_rows.specs.Rows.{sizes, rooms}
 use Rattle.split_calls.specs.Cuts.{own_words}
@@ -10,17 +9,13 @@ use Rattle.split_calls.proofs.Cuts.{own-inside}
 use Rattle.split.proofs.Laying.{laid_none, rest-laying, laid-fits, laid_done}
 use lib.ListN.{length, get_or}
 use native.Mathlib.Omega.{arith}
-use Prim.Native.Nat.{ℕ, ◌+◌, ◌-◌, ◌≤◌, ◌<◌}
+use Prim.Native.Nat.{ℕ, ◌+◌, ◌-◌, ◌≤◌}
 use Rattle.split.proofs.search.+lay.Goals as goal
 use Rattle.split.proofs.search.+lay.Goals.{After-own_words-own, After-shared_slice_known-3-1}
 
--- some customer is left
-some : (t : ℕ) (c : After-own_words-own t) → 0 < length c.args.leasts.now
-some t c = omega arith
-
 -- its words do not reach past all
 inside : (t : ℕ) (c : After-own_words-own t) → c.own_words-own.result ≤ length c.args.words.now
-inside t c = rw c.own_words-own.ensures (own-inside _ _ (some t c) c.requires.formed)
+inside t c = rw c.own_words-own.ensures (own-inside _ _ (omega arith) c.requires.formed)
 
 -- the rows lent to the others come back as long
 back : (t : ℕ) (c : After-shared_slice_known-3-1 t) →
@@ -44,7 +39,7 @@ laid t c = rw c.own_words-own.ensures at c.lay-others.ensures
 -- with the first customer's the least shares fit the store
 fits : (t : ℕ) (c : After-shared_slice_known-3-1 t) →
     let a = c.args in get_or a.leasts.now 0 0 + c.lay-others.result ≤ a.store
-fits t c = laid-fits _ _ _ _ _ _ (back t c).0 (back t c).1 _ _ c.requires ((omega arith)) (laid t c)
+fits t c = laid-fits _ _ _ _ _ _ (back t c).0 (back t c).1 _ _ c.requires (omega arith) (laid t c)
 
 pub returns-then-leasts-eq0 : goal.returns-then-leasts-eq0
 returns-then-leasts-eq0 t c = laid_none _ _ _ _ _ c.requires (omega arith)
@@ -63,10 +58,7 @@ slice_bounds-lay-start t c = inside t c
 
 pub lay-others-requires : goal.lay-others-requires
 lay-others-requires t c =
-    let n = c.own_words-own in (
-      omega (arith, c.decreases, some t (goal.at.lay-others-requires t c).After-own_words-own, mid_len 1 (length c.args.leasts.now) c.args.leasts.now (omega arith)),
-      rw n.ensures (rest-laying _ _ _ _ _ c.requires (some t (goal.at.lay-others-requires t c).After-own_words-own)),
-    )
+    (omega (arith, c.decreases, mid_len 1 (length c.args.leasts.now) c.args.leasts.now (omega arith)), rw c.own_words-own.ensures (rest-laying _ _ _ _ _ c.requires (omega arith)))
 
 pub overflow_add-low : goal.overflow_add-low
 overflow_add-low t c = record { fits = omega (arith, fits t c, c.requires.small) }
@@ -76,7 +68,7 @@ slice_bounds-enter-end t c = sym (length-take-le _ _ (inside t (goal.at.slice_bo
 
 pub shape_of-costs : goal.shape_of-costs
 shape_of-costs t c =
-    c.enter.auto.costs ∙ back-length sizes c.args.costs.now c.lay-others.new.costs (omega (arith, some t (goal.at.shape_of-costs t c).After-own_words-own, c.requires.costs-long)) (back t (goal.at.shape_of-costs t c).After-shared_slice_known-3-1).0
+    c.enter.auto.costs ∙ back-length sizes c.args.costs.now c.lay-others.new.costs (omega (arith, c.requires.costs-long)) (back t (goal.at.shape_of-costs t c).After-shared_slice_known-3-1).0
 
 pub shape_of-table : goal.shape_of-table
 shape_of-table t c =
@@ -86,4 +78,5 @@ pub returns : goal.returns
 returns t c =
     let n = c.own_words-own in
     let e = c.enter in
-    rw (rw n.ensures at e.ensures.costs, rw n.ensures at e.ensures.table) (laid_done _ _ _ _ _ _ (back t (goal.at.returns t c).After-shared_slice_known-3-1).0 (back t (goal.at.returns t c).After-shared_slice_known-3-1).1 _ _ c.requires (some t (goal.at.returns t c).After-own_words-own) (laid t (goal.at.returns t c).After-shared_slice_known-3-1))
+    let b = (goal.at.returns t c).After-shared_slice_known-3-1 in
+    rw (rw n.ensures at e.ensures.costs, rw n.ensures at e.ensures.table) (laid_done _ _ _ _ _ _ (back t b).0 (back t b).1 _ _ c.requires (omega arith) (laid t b))
