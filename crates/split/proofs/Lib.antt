@@ -1,3 +1,4 @@
+pub mod Scanning
 pub mod Entries
 pub mod Laying
 pub mod Choosing

@@ -52,12 +52,9 @@ fn smallest(row: &[u32], low: usize, store: usize) -> usize
     requires { Scanning row.now low store }
     ensures { Scanned row.now low store result }
 {
-    for t in low..store {
-        if row[t] == row[store] {
-            return t;
-        }
-    }
-    store
+    let fewest = row[store];
+    let before = row[low..store].iter().position(|&x| x == fewest);
+    low + before.unwrap_or(store - low)
 }
 
 // The first share from the least on that, with the others' misses in what is left, reaches these misses.
@@ -65,6 +62,7 @@ fn share_at(costs: &[u32], others: &[u32], misses: u32, least: usize, left: usiz
     requires { Seeking costs.now others.now misses least left }
     ensures { Sought costs.now others.now misses least left result }
 {
+    // By hand: a sum fits its word only up to the share found, and `find` asks that of its closure beforehand.
     for share in least..left {
         let size = share.min(MAX_EXTENTS);
         if costs[size] + others[left - share] == misses {

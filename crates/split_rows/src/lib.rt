@@ -1,7 +1,7 @@
 // The rows of a split's table: a customer's misses at each size, and the least misses in each room with one customer more.
 #![tactic(auto)]
 
-ghost use Rattle.std.specs.Prelude.{◌≡◌, min, length};
+ghost use Rattle.std.specs.Prelude.{◌≡◌, length};
 ghost use Rattle.split_calls.specs.Tables.{lowest};
 ghost use Rattle.split_rows.specs.Rows.{misses_row, enterable, entered_rows};
 ghost use Rattle.split_rows.specs.Steps.{Whole, pair_sum, Tries, Fillable, filled_row};
@@ -21,13 +21,6 @@ pub struct Rooms {
     pub store: usize,
 }
 
-// The smaller of two numbers: a call of its own for its two must-fail edits.
-pub fn smaller(a: usize, b: usize) -> usize
-    ensures { result ≡ min a b }
-{
-    a.min(b)
-}
-
 // The misses of a summary's words at each size: running sums of H from its end.
 fn misses_row(words: &[u32]) -> [u32; SIZES]
     requires { Whole words.now }
@@ -36,6 +29,7 @@ fn misses_row(words: &[u32]) -> [u32; SIZES]
     let v = words[1] as usize;
     let counts = 2 + 2 * v;
     let mut row = [words[1]; SIZES];
+    // By index, from the end: an entry is made of the one after it and a word at the same place of H.
     for s in (0..v).rev() {
         row[s] = row[s + 1].wrapping_add(words[counts + s]);
     }
@@ -48,6 +42,7 @@ fn least_sum(own: &[u32], others: &[u32], left: usize, tries: usize) -> u32
     ensures { result ≡ lowest (pair_sum own.now others.now left) 0 tries }
 {
     let mut least = own[0].wrapping_add(others[left]);
+    // By index: the proof over two slices by `zip`, one of them by `rev`, was not tried.
     for i in 1..=tries {
         least = least.min(own[i].wrapping_add(others[left - i]));
     }

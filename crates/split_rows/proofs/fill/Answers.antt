@@ -7,14 +7,14 @@ loop-t-init c = filling-start _ _ _ _ _ _ c.requires
 
 pub least_sum-requires : goal.least_sum-requires
 least_sum-requires c =
-    filling-tries _ _ _ _ _ _ c.requires _ _ c.loop-t.invariant (omega arith) _ c.min-tries.ensures
+    filling-tries _ _ _ _ _ _ c.requires _ _ c.loop-t.invariant (omega arith) _ (omega arith)
 
 pub loop-t-preserved : goal.loop-t-preserved
 loop-t-preserved c =
-    filling-turn _ _ _ _ _ _ c.requires _ _ c.loop-t.invariant (omega arith) _ _ c.min-tries.ensures c.least_sum.ensures
+    filling-turn _ _ _ _ _ _ c.requires _ _ c.loop-t.invariant (omega arith) _ _ (omega arith) c.least_sum.ensures
 
 pub returns-2 : goal.returns-2
 returns-2 c =
     filling-end _ _ _ _ _ _ c.requires _ _
-    (filling-turn _ _ _ _ _ _ c.requires _ _ c.loop-t.invariant (omega arith) _ _ c.min-tries.ensures c.least_sum.ensures)
+    (filling-turn _ _ _ _ _ _ c.requires _ _ c.loop-t.invariant (omega arith) _ _ (omega arith) c.least_sum.ensures)
     (omega arith)

@@ -10,10 +10,10 @@ loop-i-init c =
 
 pub loop-i-preserved : goal.loop-i-preserved
 loop-i-preserved c =
-    (omega arith, lowest-turn _ _ _ _ _ c.loop-i.auto.i c.loop-i.invariant.1 c.min-least.ensures (omega arith))
+    (omega arith, lowest-turn _ _ _ _ _ c.loop-i.auto.i c.loop-i.invariant.1 (omega arith) (omega arith))
 
 pub returns : goal.returns
 returns c = lowest_upto _ _ _ _ c.loop-i.invariant.1 (omega arith)
 
 pub returns-2 : goal.returns-2
-returns-2 c = lowest-turn _ _ _ _ _ c.loop-i.auto.i c.loop-i.invariant.1 c.min-least.ensures (omega arith)
+returns-2 c = lowest-turn _ _ _ _ _ c.loop-i.auto.i c.loop-i.invariant.1 (omega arith) (omega arith)
