@@ -17,6 +17,6 @@ pub fn list(text: &[u8], out: &mut [u8]) -> Result<usize, Refusal>
     if out.len() < page.len {
         return Err(Refusal::NoRoom);
     }
-    reuse_copies::put(out, 0, &page.bytes[..page.len]);
+    reuse_copies::put(out, 0, page.text());
     Ok(page.len)
 }

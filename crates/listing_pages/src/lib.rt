@@ -1,7 +1,7 @@
 // Pages of output: that of a listing, and that of a refusal.
 #![tactic(auto)]
 
-ghost use Rattle.std.specs.Prelude.{◌≡◌, length};
+ghost use Rattle.std.specs.Prelude.{◌≡◌, length, take};
 ghost use Rattle.listing_texts.specs.Listings.{refused_text};
 ghost use Rattle.listing_texts.specs.Tallies.{misses_by};
 ghost use Rattle.listing_texts.specs.Pages.{AddsUp, page_text};
@@ -24,6 +24,16 @@ pub const PAGE_BYTES: usize = HEAD_ROOM + ROW_ROOM * reuse::MAX_EXTENTS;
 pub struct Page {
     pub bytes: [u8; PAGE_BYTES],
     pub len: usize,
+}
+
+impl Page {
+    // Its text: the first `len` bytes, all where `len` is more.
+    pub fn text(&self) -> &[u8]
+        ensures { result.now ≡ take self.now.len self.now.bytes }
+    {
+        let shown = self.len.min(PAGE_BYTES);
+        &self.bytes[..shown]
+    }
 }
 
 // The rows of all sizes from 1 to the number of counts are laid from place `at` on.
@@ -80,7 +90,7 @@ pub fn listing_page(reads: u32, counts: &[u32]) -> Page
     if reuse::MAX_EXTENTS < cold {
         return refused_page(u32::from(Refusal::Unsound));
     }
-    if cold as u64 + reuse_rows::total(counts) != reads as u64 {
+    if cold as u64 + reuse_rows::total(counts) != u64::from(reads) {
         return refused_page(u32::from(Refusal::Unsound));
     }
     let mut bytes = [0u8; PAGE_BYTES];

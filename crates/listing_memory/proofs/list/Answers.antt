@@ -5,7 +5,7 @@ use Prim.Native.Nat.{ℕ, ◌+◌, ◌≤◌}
 use native.Mathlib.Omega.{arith}
 use lib.ListN.{length, take}
 use lib.Seq.{length-take-le}
-use Rattle.reuse_rows.specs.Rows.{put_at}
+use Rattle.reuse_rows.specs.Rows.{placed, put_at}
 use Rattle.reuse_copies.proofs.Puts.{placed-fits}
 use Rattle.summary_calls.specs.Calls.{Wrote}
 use Rattle.texts.specs.Logs.{log_of}
@@ -54,14 +54,6 @@ returns-then-out-page c =
     let e = list-short c.args.out.now _ c.finish-page.result.bytes c.finish-page.result.len (listed b) (holds b) (printed b) c.if-out-page.true in
     (sym (ap (λ (v : Wrote). v.answer) e), sym (ap (λ (v : Wrote). v.buffer) e))
 
-pub shared_ref_as_front-put : goal.shared_ref_as_front-put
-shared_ref_as_front-put c =
-    let w : length c.finish-page.result.bytes ≡ page_bytes = search rules in
-    omega (arith, w, holds (goal.at.shared_ref_as_front-put c).After-finish-page)
-
-pub slice_bounds-put-end : goal.slice_bounds-put-end
-slice_bounds-put-end c = sym (length-take-le _ _ (holds (goal.at.slice_bounds-put-end c).After-finish-page))
-
 pub returns-in_err-verdict : goal.returns-in_err-verdict
 returns-in_err-verdict c =
     let e = list-refused c.args.out.now c.args.text.now _ (sym (c.verdict.ensures ∙ judged _ _ _ c.feed-lister.ensures c.new.ensures) ∙ c.in_err-verdict.was) in
@@ -75,5 +67,5 @@ returns c =
     let w : 0 + length (take c.finish-page.result.len c.finish-page.result.bytes) ≤ length o = omega (arith, n, c.if-out-page.false) in
     let e = list_all o _ c.finish-page.result.bytes c.finish-page.result.len (listed b) (holds b) (printed b) c.if-out-page.false in (
       sym (ap (λ (v : Wrote). v.answer) e),
-      c.put.ensures ∙ placed-fits _ 0 _ w ∙ ap (put_at o 0) (printed b) ∙ sym (ap (λ (v : Wrote). v.buffer) e),
+      c.put.ensures ∙ ap (placed o 0) c.text.ensures ∙ placed-fits _ 0 _ w ∙ ap (put_at o 0) (printed b) ∙ sym (ap (λ (v : Wrote). v.buffer) e),
     )
