@@ -42,7 +42,7 @@ fn least_sum(own: &[u32], others: &[u32], left: usize, tries: usize) -> u32
     ensures { result ≡ lowest (pair_sum own.now others.now left) 0 tries }
 {
     let mut least = own[0].wrapping_add(others[left]);
-    // By index: the proof over two slices by `zip`, one of them by `rev`, was not tried.
+    // By index: by `zip` and `rev` of two slices it is vectorized too, but the proof of that form did not close.
     for i in 1..=tries {
         least = least.min(own[i].wrapping_add(others[left - i]));
     }
