@@ -17,7 +17,8 @@ pub struct Watch {
     pub hits: u32,
 }
 
-// A read's answer as the watch takes it: of a cold one its number does not matter.
+// A read's answer as the watch takes it: of a cold one its number does not matter. No Option<u32> of the distance: the cases are
+// named as the paper names a read's answers.
 #[derive(Drop)]
 pub enum Reading {
     Cold,
@@ -106,7 +107,7 @@ pub fn noted(w: Watch, reading: Reading) -> Change
     }
     match reading {
         Reading::Cold => counted(w, 1, 0),
-        Reading::Distance(d) if in_range(d) => counted(w, 0, (d <= w.size) as u32),
+        Reading::Distance(d) if in_range(d) => counted(w, 0, u32::from(d <= w.size)),
         Reading::Distance(_) => refused(w, Refusal::OutOfRange),
     }
 }
