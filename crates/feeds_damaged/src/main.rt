@@ -29,8 +29,7 @@ fn fed(rt: &impl Print, name: &str, before: Lister) -> io::Result<()> {
     } else {
         println!(rt; "{name}, changed:")?;
     }
-    let page = after.finish();
-    rt.write_all(&page.bytes[..page.len])
+    rt.write_all(after.finish().text())
 }
 
 // One that has read the extent 7.

@@ -21,6 +21,5 @@ fn main(rt: HostRuntime) -> io::Result<()> {
             break;
         }
     }
-    let page = lister.finish();
-    rt.stdout().write_all(&page.bytes[..page.len])
+    rt.stdout().write_all(lister.finish().text())
 }
