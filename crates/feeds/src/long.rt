@@ -1,5 +1,5 @@
 // Texts at the limit of reads.
-use crate::{pieces, report};
+use crate::report;
 use listing::Lister;
 use reuse::MAX_READS;
 use std::io;
@@ -12,9 +12,7 @@ fn of_reads(rt: &impl Print, name: &[u8], reads: u32) -> io::Result<()> {
         lister = lister.feed(b" (read 5)\n");
     }
     let whole = lister.feed(b" (read 5))\n");
-    let page = whole.finish();
-    let bytes = page.bytes;
-    report::output(rt, name, pieces::part(&bytes, 0, page.len))
+    report::output(rt, name, whole.finish().text())
 }
 
 // Both texts at the limit.

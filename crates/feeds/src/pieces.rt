@@ -43,9 +43,7 @@ fn gives(text: &[u8], a: usize, b: usize, wanted: &[u8]) -> bool
     requires a_le_b { a ≤ b }
     requires b_in_bounds { b ≤ length text.now }
 {
-    let page = by_three(text, a, b);
-    let bytes = page.bytes;
-    part(&bytes, 0, page.len) == wanted
+    by_three(text, a, b).text() == wanted
 }
 
 // How many of the cuttings before byte b, and before each byte up to it whose place is a multiple of `apart`, give the

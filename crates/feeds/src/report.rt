@@ -17,8 +17,7 @@ fn counts(rt: &impl Print, agree: u64, differ: u64) -> io::Result<()> {
 // A text: its output fed byte by byte, and its cuttings.
 pub fn text(rt: &impl Print, name: &[u8], text: &[u8]) -> io::Result<()> {
     let page = pieces::by_bytes(text);
-    let bytes = page.bytes;
-    let wanted = pieces::part(&bytes, 0, page.len);
+    let wanted = page.text();
     output(rt, name, wanted)?;
     counts(
         rt,
