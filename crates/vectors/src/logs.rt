@@ -32,6 +32,7 @@ fn pick(seed: u32, i: u32, v: u32) -> u32
     requires { 0 < v }
 {
     let a = mixed(seed, i);
+    // No enum of the kinds: it would be made of this remainder by the same match, and used here alone.
     match seed % 4 {
         0 => a % v,
         1 => (a % v).min(mixed(seed / 2, i) % v),
@@ -45,6 +46,7 @@ fn variety(seed: u32) -> u32
     ensures { 0 < result }
 {
     let a = mixed(seed, 90001);
+    // No enum, for the same reason.
     match a % 3 {
         0 => a / 3 % 12 + 1,
         1 => MAX_EXTENTS as u32,
