@@ -1,5 +1,5 @@
 -- Words that hold a session: too few of them, and what a refusal leaves.
-use Rattle.std.specs.Prelude.{Result, Ok, Err, is_ok}
+use Rattle.std.specs.Prelude.{Option, Some, None, Result, Ok, Err, is_ok}
 use Rattle.reuse.specs.declared.refusals.Refusal.{Refusal}
 use Rattle.reuse.specs.declared.refusals.Refusal.TheVariants.{NoRoom, Unsound}
 use mathlib.Core.Path.{◌≡◌, refl, sym, ap, ◌∙◌}
@@ -10,6 +10,7 @@ use mathlib.Core.Bool.{true, false, true≢false, false≢true}
 use lib.ListN.{length}
 use lib.Dec.{leb}
 use borrow.Author.Tests.{le-leb, leb-true}
+use Rattle.reuse.proofs.Lists.{by-test}
 use Rattle.reuse.proofs.Told.{told, untold}
 use Rattle.reuse_rows.specs.Rows.{put_at, placed}
 use Rattle.summary_calls.specs.Calls.{refused}
@@ -19,7 +20,7 @@ use Rattle.session_calls.specs.declared.Answer.{Answer}
 use Rattle.session.specs.Sessions.{fresh, Wide}
 use Rattle.session.specs.Reads.{refused as read_refused, read_of}
 use Rattle.session_summary.specs.Summaries.{summary_call, misses_call, share_call}
-use Rattle.session_layout.specs.Layout.{session_length, session_in, session_laid}
+use Rattle.session_layout.specs.Layout.{session_length, session_in, kept_in, session_laid}
 use Rattle.session_words.specs.Calls.{new_session, held_in, read_in, session_left, summary_in, misses_in, share_in}
 use Rattle.session_layout.proofs.Laid.{fresh-wide, laid-length, laid-fits, laid-row, laid-read}
 
@@ -41,6 +42,22 @@ module _ (w : List ℕ) where
     read_all : (x : ℕ) → read_in w x ≡ read_of (session_in w) x
     unfolding read_in
     read_all x = simp (le-leb session_length (length w) enough)
+
+-- the session kept in the words is the one held there
+pub kept-held : (w : List ℕ) {s : Session} → kept_in w ≡ Some s → held_in w ≡ Ok s
+unfolding kept_in held_in
+kept-held w {s} e =
+    by-test (leb session_length (length w))
+    (λ t. let q : ◌≡◌ {A = Option Session} (Some (session_in w)) (Some s) = simp t at e in let is : session_in w ≡ s = cc in simp t (ap Ok is))
+    (λ f. let q : ◌≡◌ {A = Option Session} None (Some s) = simp f at e in absurd (cc))
+
+-- and where none is kept, none is held
+pub unkept-held : (w : List ℕ) → kept_in w ≡ None → held_in w ≡ Err Unsound
+unfolding kept_in held_in
+unkept-held w e =
+    by-test (leb session_length (length w))
+    (λ t. let q : ◌≡◌ {A = Option Session} (Some (session_in w)) None = simp t at e in absurd (cc))
+    (λ f. simp f)
 
 -- no session in the words: what is refused, and why
 module _ (w : List ℕ) {r : Refusal} (h : held_in w ≡ Err r) where

@@ -32,7 +32,10 @@ pub fn new_session(words: &mut [u32]) -> Result<usize, Refusal>
 pub fn read(words: &mut [u32], extent: u32) -> Result<Answer, Refusal>
     ensures { (result ≡ (read_in words.old extent).answer) × (words.new ≡ session_left (read_in words.old extent).answer (read_in words.old extent).session words.old) }
 {
-    let session = session_in(words)?;
+    // Not by `?`: of a session each way of handing it on is a copy of 24 KB on the stack.
+    let Some(session) = session_layout::session_in(words) else {
+        return Err(Refusal::Unsound);
+    };
     let step = session.read(extent);
     if step.answer.is_ok() {
         session_layout::put_session(words, step.session);
@@ -44,7 +47,11 @@ pub fn read(words: &mut [u32], extent: u32) -> Result<Answer, Refusal>
 pub fn summary(words: &[u32], out: &mut [u32]) -> Result<usize, Refusal>
     ensures { (result ≡ (summary_in words.now out.old).answer) × (out.new ≡ (summary_in words.now out.old).buffer) }
 {
-    session_summary::summary(session_in(words)?, out)
+    // Not by `?`, as in a read.
+    match session_layout::session_in(words) {
+        Some(session) => session_summary::summary(session, out),
+        None => Err(Refusal::Unsound),
+    }
 }
 
 // The misses of a cache of this size that reads the log of the session in the words.

@@ -1,30 +1,29 @@
 -- `session_words::read` meets its contract.
 use Rattle.std.proofs.Common.{◌≡◌, Ok, sym, ap, ◌∙◌, rules}
-use Rattle.reuse.proofs.Told.{handed_on}
 use Rattle.session.specs.Sessions.{Wide}
 use Rattle.session.specs.declared.Step.{Step}
 use Rattle.session_layout.proofs.Laid.{laid-fits}
 use Rattle.session_words.specs.Calls.{read_in, held_in, session_left}
-use Rattle.session_words.proofs.Kept.{read-held, read-unheld, held-enough, left-read, left-refused}
+use Rattle.session_words.proofs.Kept.{read-held, read-unheld, kept-held, unkept-held, held-enough, left-read, left-refused}
 use Rattle.session_words.proofs.read.Goals as goal
-use Rattle.session_words.proofs.read.Goals.{After-read-step, In_ok-session}
+use Rattle.session_words.proofs.read.Goals.{After-read-step, In-Some}
 
 -- the words hold the session
-held : (c : In_ok-session) → held_in c.args.words.now ≡ Ok c.in_ok-session.session
-held c = sym c.session_in.ensures ∙ c.in_ok-session.was
+held : (c : In-Some) → held_in c.args.words.now ≡ Ok c.in-Some.session
+held c = kept-held _ (sym c.session_in.ensures ∙ c.in-Some.is)
 
 -- the read is that of the session in the words
 stepped : (c : After-read-step) → c.read-step.result ≡ read_in c.args.words.now c.args.extent
-stepped c = c.read-step.ensures ∙ read-held _ (sym c.session_in.ensures ∙ c.in_ok-session.was) _
+stepped c = c.read-step.ensures ∙ read-held _ (kept-held _ (sym c.session_in.ensures ∙ c.in-Some.is)) _
 
 -- the session after the read has its widths
 wide : (c : After-read-step) → Wide c.read-step.result.session
 wide c = search rules
 
-pub returns-in_err-session : goal.returns-in_err-session
-returns-in_err-session c =
-    let e = read-unheld _ (sym c.session_in.ensures ∙ c.in_err-session.was) _ in
-    (handed_on _ _ c.from_residual.ensures.1 ∙ sym (ap (λ (v : Step). v.answer) e), sym (ap (λ (v : Step). session_left v.answer v.session c.args.words.now) e))
+pub returns-in_default : goal.returns-in_default
+returns-in_default c =
+    let e = read-unheld _ (unkept-held _ (sym c.session_in.ensures ∙ c.in_default.is)) _ in
+    (sym (ap (λ (v : Step). v.answer) e), sym (ap (λ (v : Step). session_left v.answer v.session c.args.words.now) e))
 
 pub returns-then-is_ok : goal.returns-then-is_ok
 returns-then-is_ok c =
@@ -32,7 +31,7 @@ returns-then-is_ok c =
     let e = stepped b.After-read-step in
     let d = c.read-step.result in (
       ap (λ (v : Step). v.answer) e,
-      c.put_session.ensures ∙ laid-fits d.session (wide b.After-read-step) _ (held-enough _ (held b.In_ok-session))
+      c.put_session.ensures ∙ laid-fits d.session (wide b.After-read-step) _ (held-enough _ (held b.In-Some))
           ∙ sym (left-read d.answer d.session _ (sym c.is_ok.ensures.value ∙ c.if-is_ok.true))
           ∙ ap (λ (v : Step). session_left v.answer v.session c.args.words.now) e,
     )
