@@ -2,6 +2,8 @@
 #![tactic(auto)]
 
 ghost use Rattle.std.specs.Prelude.{◌≡◌};
+ghost use Rattle.reuse_rows.specs.Rows.{placed};
+ghost use Rattle.session_layout.specs.Layout.{session_laid};
 ghost use Rattle.session_words.specs.Calls.{new_session, held_in, read_in, session_left, summary_in, misses_in, share_in};
 
 use reuse::Refusal;
@@ -28,6 +30,15 @@ pub fn new_session(words: &mut [u32]) -> Result<usize, Refusal>
     Ok(SESSION)
 }
 
+// The session's words are put to the front of the row. Not inlined: the copy that this takes is not on the stack while the
+// session reads.
+#[inline(never)]
+fn put_back(words: &mut [u32], session: &Session)
+    ensures { words.new ≡ placed words.old 0 (session_laid session.now) }
+{
+    session_layout::put_session(words, *session);
+}
+
 // A read of the extent by the session in the words.
 pub fn read(words: &mut [u32], extent: u32) -> Result<Answer, Refusal>
     ensures { (result ≡ (read_in words.old extent).answer) × (words.new ≡ session_left (read_in words.old extent).answer (read_in words.old extent).session words.old) }
@@ -38,7 +49,7 @@ pub fn read(words: &mut [u32], extent: u32) -> Result<Answer, Refusal>
     };
     let step = session.read(extent);
     if step.answer.is_ok() {
-        session_layout::put_session(words, step.session);
+        put_back(words, &step.session);
     }
     step.answer
 }

@@ -31,7 +31,7 @@ returns-then-is_ok c =
     let e = stepped b.After-read-step in
     let d = c.read-step.result in (
       ap (λ (v : Step). v.answer) e,
-      c.put_session.ensures ∙ laid-fits d.session (wide b.After-read-step) _ (held-enough _ (held b.In-Some))
+      c.put_back.ensures ∙ laid-fits d.session (wide b.After-read-step) _ (held-enough _ (held b.In-Some))
           ∙ sym (left-read d.answer d.session _ (sym c.is_ok.ensures.value ∙ c.if-is_ok.true))
           ∙ ap (λ (v : Step). session_left v.answer v.session c.args.words.now) e,
     )
