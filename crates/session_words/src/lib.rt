@@ -2,8 +2,6 @@
 #![tactic(auto)]
 
 ghost use Rattle.std.specs.Prelude.{◌≡◌};
-ghost use Rattle.reuse_rows.specs.Rows.{placed};
-ghost use Rattle.session_layout.specs.Layout.{session_laid};
 ghost use Rattle.session_words.specs.Calls.{new_session, held_in, read_in, session_left, summary_in, misses_in, share_in};
 
 use reuse::Refusal;
@@ -30,26 +28,17 @@ pub fn new_session(words: &mut [u32]) -> Result<usize, Refusal>
     Ok(SESSION)
 }
 
-// The session's words are put to the front of the row. Not inlined: the copy that this takes is not on the stack while the
-// session reads.
-#[inline(never)]
-fn put_back(words: &mut [u32], session: &Session)
-    ensures { words.new ≡ placed words.old 0 (session_laid session.now) }
-{
-    session_layout::put_session(words, *session);
-}
-
 // A read of the extent by the session in the words.
 pub fn read(words: &mut [u32], extent: u32) -> Result<Answer, Refusal>
     ensures { (result ≡ (read_in words.old extent).answer) × (words.new ≡ session_left (read_in words.old extent).answer (read_in words.old extent).session words.old) }
 {
     // Not by `?`: of a session each way of handing it on is a copy of 24 KB on the stack.
-    let Some(session) = session_layout::session_in(words) else {
-        return Err(Refusal::Unsound);
+    let step = match session_layout::session_in(words) {
+        Some(session) => session.read(extent),
+        None => return Err(Refusal::Unsound),
     };
-    let step = session.read(extent);
     if step.answer.is_ok() {
-        put_back(words, &step.session);
+        session_layout::put_session(words, step.session);
     }
     step.answer
 }

@@ -20,9 +20,9 @@ stepped c = c.read-step.ensures ∙ read-held _ (kept-held _ (sym c.session_in.e
 wide : (c : After-read-step) → Wide c.read-step.result.session
 wide c = search rules
 
-pub returns-in_default : goal.returns-in_default
-returns-in_default c =
-    let e = read-unheld _ (unkept-held _ (sym c.session_in.ensures ∙ c.in_default.is)) _ in
+pub returns-in-None : goal.returns-in-None
+returns-in-None c =
+    let e = read-unheld _ (unkept-held _ (sym c.session_in.ensures ∙ c.in-None.is)) _ in
     (sym (ap (λ (v : Step). v.answer) e), sym (ap (λ (v : Step). session_left v.answer v.session c.args.words.now) e))
 
 pub returns-then-is_ok : goal.returns-then-is_ok
@@ -31,7 +31,7 @@ returns-then-is_ok c =
     let e = stepped b.After-read-step in
     let d = c.read-step.result in (
       ap (λ (v : Step). v.answer) e,
-      c.put_back.ensures ∙ laid-fits d.session (wide b.After-read-step) _ (held-enough _ (held b.In-Some))
+      c.put_session.ensures ∙ laid-fits d.session (wide b.After-read-step) _ (held-enough _ (held b.In-Some))
           ∙ sym (left-read d.answer d.session _ (sym c.is_ok.ensures.value ∙ c.if-is_ok.true))
           ∙ ap (λ (v : Step). session_left v.answer v.session c.args.words.now) e,
     )
