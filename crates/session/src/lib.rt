@@ -91,7 +91,9 @@ impl Session {
         self
     }
 
-    // A read of the extent x, whose mark is in slot k, after so many slots looked at.
+    // A read of the extent x, whose mark is in slot k, after so many slots looked at. Not inlined, as is a first read: the rows
+    // of the session after it are not on the stack while the one before it is tested.
+    #[inline(never)]
     fn moved(self, x: u32, k: usize, looked: u32) -> Step
         requires { Movable self x k looked }
         ensures { result ≡ new_step (step_at (old_of self) x (at (suc (sum (drop (suc k) (full.marks (old_of self))))))) }
@@ -127,6 +129,7 @@ impl Session {
     }
 
     // A first read of the extent x, after so many slots looked at.
+    #[inline(never)]
     fn entered(self, x: u32, looked: u32) -> Step
         requires { Enterable self looked }
         ensures { result ≡ new_step (step_at (old_of self) x (cold (suc (full.extents (old_of self))))) }
