@@ -75,7 +75,9 @@ impl Session {
         self.fields().intact()
     }
 
-    // The marks moved, in order, to the first slots.
+    // The marks moved, in order, to the first slots. Neither this nor a read below is inlined, so that the rows that they work
+    // on are not on the stack of the whole read.
+    #[inline(never)]
     fn gathered(mut self) -> Self
         requires { Gatherable self }
         ensures { result ≡ gathered self }
@@ -91,8 +93,7 @@ impl Session {
         self
     }
 
-    // A read of the extent x, whose mark is in slot k, after so many slots looked at. Not inlined, as is a first read: the rows
-    // of the session after it are not on the stack while the one before it is tested.
+    // A read of the extent x, whose mark is in slot k, after so many slots looked at.
     #[inline(never)]
     fn moved(self, x: u32, k: usize, looked: u32) -> Step
         requires { Movable self x k looked }
@@ -161,6 +162,7 @@ impl Session {
     }
 
     // The session unchanged, beside the refusal.
+    #[inline(never)]
     fn refused(self, refusal: Refusal) -> Step
         ensures { result ≡ refused self refusal }
     {
