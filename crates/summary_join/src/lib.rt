@@ -18,10 +18,10 @@ pub fn join(a: &[u32], b: &[u32], out: &mut [u32]) -> Result<usize, Refusal>
         return Err(Refusal::NotASummary);
     };
     let reads = a.reads + b.reads;
+    let extents = reuse_tables::extents_with(a.first, b.first);
     if MAX_READS < reads {
         return Err(Refusal::TooManyReads);
     }
-    let extents = reuse_tables::extents_with(a.first, b.first);
     if MAX_EXTENTS < extents {
         return Err(Refusal::TooManyExtents);
     }
