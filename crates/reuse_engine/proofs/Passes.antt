@@ -5,11 +5,9 @@ use native.Mathlib.Omega.{arith}
 use native.Mathlib.Numerals.{add-one}
 use mathlib.Core.List.{List, [], ◌∷◌, ◌++◌, append_assoc, append-nil}
 use mathlib.Core.Bool.{false}
-use lib.ListN.{length, take, drop, get_or, set, length-append, length-take, length-drop, drop_of_length-le}
-use lib.Seq.{take-suc, drop-cons, set_at, get_or_at, length-take-le, take_all, take-take, get_or-take}
+use lib.ListN.{length, take, drop, get_or, set, length-append, length-take, length-drop, drop_of_length-le, get_or-append}
+use lib.Seq.{take-suc, drop-cons, set_at, get_or_at, take-length, get_or-append_seam, length-take-le, take_all, take-take, get_or-take}
 use lib.Seq.{take_at, drop_at, take-add, drop-drop, get_or-drop}
-use lib.Seq.{paste}
-use Rattle.std.proofs.lemmas.List.Edits.{paste_all}
 use borrow.Author.Tests.{ne_eqb, le-leb, lt-ltb, le-ltb}
 use Rattle.reuse_engine.specs.declared.Place.TheVariants.{Cold, Depth, Full}
 use Rattle.reuse.specs.Lists.{mem}
@@ -18,19 +16,55 @@ use Rattle.reuse_engine.specs.Engine.{place_of, lifted, Shifted, Sunk}
 use Rattle.reuse.proofs.Lists.{mem-append}
 use Rattle.reuse.proofs.Depth.{depth-absent, depth-at}
 
--- all words one place up, and `last` below
-pub moved-up : (s : List ℕ) (last : ℕ) (up : List ℕ) → 0 < length s → up ≡ paste s 0 (drop 1 s) (length s - 1)
-    → set up (length s - 1) last ≡ drop 1 (s ++ (last ∷ []))
-moved-up [] last up h e = absurd (omega arith)
-moved-up (x ∷ s) last up h e =
-    let n = length (x ∷ s) - 1 in
-    let w : n ≡ length s = omega arith in
-    let z : 0 + n ≡ n = omega arith in
-    let d : drop n (x ∷ s) ≡ get_or (x ∷ s) n 0 ∷ [] =
-    drop-cons (x ∷ s) n 0 (omega arith) ∙ ap {B = List ℕ} (λ r. get_or (x ∷ s) n 0 ∷ r) (drop_of_length-le s {i = n} (omega arith)) in
-    let p : up ≡ s ++ (get_or (x ∷ s) n 0 ∷ []) =
-    e ∙ paste_all (x ∷ s) 0 s n w ∙ ap (λ (k : ℕ). s ++ drop k (x ∷ s)) z ∙ ap (λ (r : List ℕ). s ++ r) d in
-    rw p (set_at s (get_or (x ∷ s) n 0) [] last n (sym w))
+-- words moved up from the end, down to place i
+pub record Risen (s : List ℕ) (last : ℕ) (row : List ℕ) (carry i : ℕ) : Type 0 where
+  pub within : i ≤ length s
+  pub moved : row ≡ take i s ++ drop (suc i) (s ++ (last ∷ []))
+  pub hand : carry ≡ get_or (s ++ (last ∷ [])) i 0
+
+module _ (s : List ℕ) (last : ℕ) where
+  -- one more word than s
+  long : length (s ++ (last ∷ [])) ≡ suc (length s)
+  long = simp length-append (omega arith)
+
+  -- before the first
+  pub rise-start : Risen s last s last (length s)
+  rise-start = record {
+    within = omega arith;
+    moved = sym (simp (take-length, drop_of_length-le (s ++ (last ∷ [])) {i = suc (length s)} (omega (arith, long)), append-nil));
+    hand = sym (get_or-append_seam s last [] 0);
+  }
+
+  -- what stands at the next place
+  rise-next : (row : List ℕ) (carry j : ℕ) → Risen s last row carry (suc j) → row ≡ take j s ++ (get_or s j 0 ∷ drop (suc (suc j)) (s ++ (last ∷ [])))
+  rise-next row carry j h =
+      let w : j < length s = omega (arith, h.within) in
+      h.moved ∙ rw (take-suc s j 0 w) (simp append_assoc)
+
+  -- one word
+  pub rise-turn : (row : List ℕ) (carry i j : ℕ) → Risen s last row carry i → suc j ≡ i → Risen s last (set row j carry) (get_or row j 0) j
+  rise-turn row carry i j g e =
+      let h : Risen s last row carry (suc j) = rw e g in
+      let w : j < length s = omega (arith, h.within) in
+      let n : length (take j s) ≡ j = length-take-le j s (omega arith) in
+      record {
+        within = omega arith;
+        moved = rw (
+          rise-next row carry j h,
+          set_at (take j s) (get_or s j 0) (drop (suc (suc j)) (s ++ (last ∷ []))) carry j n,
+          drop-cons (s ++ (last ∷ [])) (suc j) 0 (omega (arith, long)),
+          h.hand,
+        );
+        hand = rw (rise-next row carry j h, get_or_at (take j s) (get_or s j 0) (drop (suc (suc j)) (s ++ (last ∷ []))) 0 j n) (sym (get_or-append s (last ∷ []) 0 j w));
+      }
+
+  -- all words moved
+  pub rise-end : (row : List ℕ) (carry i : ℕ) → Risen s last row carry i → i ≤ 0 → row ≡ drop 1 (s ++ (last ∷ []))
+  rise-end row carry i h e = let z : i ≡ 0 = omega arith in h.moved ∙ rw z
+
+  -- as long as before
+  pub risen-length : (row : List ℕ) (carry i : ℕ) → Risen s last row carry i → length row ≡ length s
+  risen-length row carry i h = rw h.moved (simp (length-append, length-take, length-drop) (omega (arith, h.within, long)))
 
 -- a word put before k words: the first k of these
 take-under : (k y : ℕ) (l : List ℕ) → take k (y ∷ take k l) ≡ take k (y ∷ l)

@@ -85,10 +85,9 @@ fn down(row: &mut [u32], first: u32) -> u32
 fn move_back(stack: &mut [u32], last: u32)
     ensures { stack.new ≡ drop 1 (stack.old ++ (last ∷ [])) }
 {
-    let n = stack.len();
-    if n == 0 {
-        return;
+    let mut carry = last;
+    // By a loop: `copy_within` needs memmove, which the archive for C would want from outside.
+    for i in (0..stack.len()).rev() {
+        carry = std::mem::replace(&mut stack[i], carry);
     }
-    stack.copy_within(1.., 0);
-    stack[n - 1] = last;
 }
