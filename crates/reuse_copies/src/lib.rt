@@ -33,7 +33,10 @@ pub fn put<T: Copy>(out: &mut [T], at: usize, words: &[T])
     if out.len() < at || out.len() - at < words.len() {
         return;
     }
-    out[at..at + words.len()].copy_from_slice(words);
+    // By index: `copy_from_slice` calls memmove from outside where the rows are not known apart.
+    for i in 0..words.len() {
+        out[at + i] = words[i];
+    }
 }
 
 // All words become 0.
