@@ -1,21 +1,21 @@
--- Words put into a row: the row afterwards.
+-- Words put into a row: the row afterwards, and a turn of the loop that puts them.
 use mathlib.Core.Path.{◌≡◌, refl, sym, ap, ◌∙◌}
 use Prim.Native.Nat.{ℕ, suc, ◌+◌, ◌-◌, ◌≤◌, ◌<◌}
 use native.Mathlib.Omega.{arith}
+use native.Mathlib.Numerals.{add-one}
 use mathlib.Core.List.{List, [], ◌∷◌, ◌++◌, append_assoc}
-use lib.ListN.{length, take, drop, get_or, set, take-append-drop, length-append, length-take, length-drop}
-use lib.Seq.{take-suc-set, drop-set-lt, drop-drop, drop_at, take_at, take-take, take-append-le, length-take-le, get_or-take, get_or-drop}
+use lib.ListN.{length, take, drop, get_or, set, drop_of_length-le, take-append-drop, length-append, length-take, length-drop, length-set}
+use lib.Seq.{take-suc-set, drop-set-lt, drop-cons, drop-drop, drop_at, take_at, take-take, take-append-le, length-take-le, get_or-take, get_or-drop}
 use borrow.Author.Tests.{le-leb, lt-leb}
-use borrow.Rule.Slice.PartMut.{put_mid}
 use Rattle.reuse_rows.specs.Rows.{put_at, placed}
 
 -- nothing put
-pub put-none : (o : List ℕ) (n : ℕ) → put_at o n [] ≡ o
+pub put-none : {A : Type 0} (o : List A) (n : ℕ) → put_at o n [] ≡ o
 unfolding put_at
 put-none o n = let e : n + 0 ≡ n = omega arith in rw e (take-append-drop n o)
 
 -- the first of the words put
-pub put-cons : (o : List ℕ) (n x : ℕ) (l : List ℕ) → n < length o → put_at o n (x ∷ l) ≡ put_at (set o n x) (n + 1) l
+pub put-cons : {A : Type 0} (o : List A) (n : ℕ) (x : A) (l : List A) → n < length o → put_at o n (x ∷ l) ≡ put_at (set o n x) (n + 1) l
 unfolding put_at
 put-cons o n x l h =
     let a : n + 1 ≡ suc n = omega arith in
@@ -98,9 +98,33 @@ module _ {A : Type 0} (o : List A) (n : ℕ) (l : List A) where
   unfolding placed
   placed-not h = rw (lt-leb (n + length l) (length o) h)
 
-  -- the row when a part of it, lent to be written, is back with these words
-  pub placed-part : (new : List A) → new ≡ l → n + length l ≤ length o → put_mid n (n + length l - n) o new ≡ placed o n l
-  unfolding put_at
-  placed-part new e h =
-      let k : n + length l - n ≡ length l = omega arith in
-      rw (e, k, drop-drop (length l) n o) (sym (placed-fits h))
+-- the first i words of s are copied; what is left is still to be put
+pub record Copying {A : Type 0} (o : List A) (at : ℕ) (s row : List A) (i : ℕ) : Type 0 where
+  pub within : i ≤ length s
+  pub long : length row ≡ length o
+  pub fits : at + length s ≤ length o
+  pub same : put_at row (at + i) (drop i s) ≡ put_at o at s
+
+module _ {A : Type 0} (o : List A) (at : ℕ) (s : List A) where
+  -- none is copied
+  pub copy_start : at + length s ≤ length o → Copying o at s o 0
+  copy_start h = let z : at + 0 ≡ at = omega arith in record { within = omega arith; long = refl; fits = h; same = rw z }
+
+  module _ (row : List A) (i : ℕ) (h : Copying o at s row i) where
+    -- one more
+    pub copy-turn : (x : A) → x ≡ get_or s i x → i < length s → Copying o at s (set row (at + i) x) (i + 1)
+    copy-turn x e l =
+        let n : at + (i + 1) ≡ at + i + 1 = omega arith in
+        let w : drop i s ≡ x ∷ drop (i + 1) s = rw (add-one i) (drop-cons s i x l ∙ ap (λ (y : A). y ∷ drop (suc i) s) (sym e)) in
+        record {
+          within = omega arith;
+          long = simp length-set h.long;
+          fits = h.fits;
+          same = rw n (sym (put-cons row (at + i) x (drop (i + 1) s) (omega (arith, h.long, h.fits))) ∙ (rw w at h.same));
+        }
+
+    -- all are
+    pub copy-end : length s ≤ i → row ≡ placed o at s
+    copy-end l =
+        let z : drop i s ≡ [] = drop_of_length-le s {i = i} l in
+        sym (put-none row (at + i)) ∙ (rw z at h.same) ∙ sym (placed-fits o at s h.fits)

@@ -33,7 +33,11 @@ pub fn put<T: Copy>(out: &mut [T], at: usize, words: &[T])
     if out.len() < at || out.len() - at < words.len() {
         return;
     }
-    out[at..at + words.len()].copy_from_slice(words);
+    // A loop: `copy_from_slice` calls memmove from outside where the rows are not known apart. By index: of
+    // `iter_mut().zip(words)` nothing is known of the elements written, so the proof does not close.
+    for i in 0..words.len() {
+        out[at + i] = words[i];
+    }
 }
 
 // All words become 0.
