@@ -2,20 +2,19 @@
 use Prim.Native.Nat.{ℕ, ◌≤◌}
 use mathlib.Core.Path.{◌≡◌, refl, sym, ap, ◌∙◌}
 use mathlib.Core.List.{List}
-use mathlib.Core.Bool.{true}
+use mathlib.Core.Bool.{Bool, true}
 use native.Mathlib.Omega.{arith}
 use lib.ListN.{replicate}
 use Rattle.reuse.specs.Lists.{sum}
 use Rattle.reuse.specs.Limits.{max_reads, max_extents, slot_count, right_count, levels}
 use Rattle.session_sums.specs.Sums.{sums_of}
 use Rattle.session_rights.specs.Rights.{rights_of, marks_from, rightly, Gives}
-use Rattle.session_soundness.specs.declared.Fields.{Fields}
 use Rattle.session_soundness.specs.Soundness.{sound_rows, intact_rows}
 use Rattle.session_calls.specs.Sessions as full
 use Rattle.session_calls.specs.Sessions.{FullSession, FullWide}
 use Rattle.session_calls.specs.Reads as full-reads
 use Rattle.session.specs.declared.Session.{Session}
-use Rattle.session.specs.Sessions.{Lent, Wide, new_of, marks, old_of, fresh, sound}
+use Rattle.session.specs.Sessions.{Wide, new_of, marks, old_of, fresh, sound}
 use Rattle.session.specs.Reads.{new_step, read_of}
 use Rattle.session.specs.Steps.{Summed}
 use Rattle.reuse.proofs.Lists.{both}
@@ -60,9 +59,12 @@ module _ (s : Session) where
   unfolding sound marks
   tested w = fields.intact-wide s.first s.hist s.slots s.count s.rights (fields-wide w) s.reads s.next
 
-  -- so is that of fields that are a session's
-  pub lent-tested : Wide s → (f : Fields) → Lent s f → intact_rows f.reads f.first.now f.hist.now f.slots.now f.count f.rights.now f.next ≡ sound s
-  lent-tested w f l = rw (l.reads, l.first, l.hist, l.slots, l.count, l.rights, l.next) (tested w)
+  -- so is that of numbers and rows that are a session's
+  pub lent-tested : Wide s → {answer : Bool} {reads count next : ℕ} {first hist slots rights : List ℕ}
+      → answer ≡ intact_rows reads first hist slots count rights next
+      → reads ≡ s.reads → first ≡ s.first → hist ≡ s.hist → slots ≡ s.slots → count ≡ s.count → rights ≡ s.rights → next ≡ s.next
+      → answer ≡ sound s
+  lent-tested w a reads first hist slots count rights next = a ∙ rw (reads, first, hist, slots, count, rights, next) (tested w)
 
   module _ (f : Facts s) where
     -- the marks of the old session are those worked out

@@ -53,9 +53,11 @@ pub fn misses(s: Session, size: u32) -> Result<u32, Refusal>
 pub fn share(s: Session, size: u32) -> Result<HitShare, Refusal>
     ensures { result ≡ share_call s size }
 {
-    let missed = misses(s, size)?;
+    if !s.sound() {
+        return Err(Refusal::Unsound); // no share of an unsound session
+    }
     let reads = s.reads;
     let servable = reads - s.count;
-    let hit = reads - missed;
+    let hit = hits(s, size);
     Ok(summary_counts::share_of(hit, servable))
 }

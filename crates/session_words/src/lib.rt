@@ -2,20 +2,13 @@
 #![tactic(auto)]
 
 ghost use Rattle.std.specs.Prelude.{◌≡◌};
-ghost use Rattle.session_words.specs.Calls.{new_session, held_in, read_in, session_left, summary_in, misses_in, share_in};
+ghost use Rattle.session_words.specs.Calls.{new_session, read_in, session_left, summary_in, misses_in, share_in};
 
 use reuse::Refusal;
 use session::Session;
 use session_calls::Answer;
 use session_layout::SESSION;
 use summary_calls::HitShare;
-
-// The session in the words; too few words are no sound session.
-fn session_in(words: &[u32]) -> Result<Session, Refusal>
-    ensures { result ≡ held_in words.now }
-{
-    session_layout::session_in(words).ok_or(Refusal::Unsound)
-}
 
 // A new session's words at the front of the row.
 pub fn new_session(words: &mut [u32]) -> Result<usize, Refusal>
@@ -50,7 +43,7 @@ pub fn summary(words: &[u32], out: &mut [u32]) -> Result<usize, Refusal>
     // Not by `?`, as in a read.
     match session_layout::session_in(words) {
         Some(session) => session_summary::summary(session, out),
-        None => Err(Refusal::Unsound),
+        None => Err(Refusal::Unsound), // too few words for a summary
     }
 }
 
@@ -58,12 +51,20 @@ pub fn summary(words: &[u32], out: &mut [u32]) -> Result<usize, Refusal>
 pub fn misses(words: &[u32], size: u32) -> Result<u32, Refusal>
     ensures { result ≡ misses_in words.now size }
 {
-    session_summary::misses(session_in(words)?, size)
+    // Not by `?`, as in a read.
+    match session_layout::session_in(words) {
+        Some(session) => session_summary::misses(session, size),
+        None => Err(Refusal::Unsound), // too few words for misses
+    }
 }
 
 // The hit share of a cache of this size that reads the log of the session in the words.
 pub fn share(words: &[u32], size: u32) -> Result<HitShare, Refusal>
     ensures { result ≡ share_in words.now size }
 {
-    session_summary::share(session_in(words)?, size)
+    // Not by `?`, as in a read.
+    match session_layout::session_in(words) {
+        Some(session) => session_summary::share(session, size),
+        None => Err(Refusal::Unsound), // too few words for a share
+    }
 }

@@ -1,12 +1,10 @@
 -- `session_words::misses` meets its contract.
 use Rattle.std.proofs.Common.{sym, ◌∙◌}
-use Rattle.reuse.proofs.Told.{handed_on}
-use Rattle.session_words.proofs.Kept.{misses-held, misses-unheld}
+use Rattle.session_words.proofs.Kept.{misses-held, misses-unheld, kept-held, unkept-held}
 use Rattle.session_words.proofs.misses.Goals as goal
 
-pub returns-in_err-session_in : goal.returns-in_err-session_in
-returns-in_err-session_in c =
-    handed_on _ _ c.from_residual.ensures.1 ∙ sym (misses-unheld _ (sym c.session_in.ensures ∙ c.in_err-session_in.was) _)
+pub returns-in-None : goal.returns-in-None
+returns-in-None c = sym (misses-unheld _ (unkept-held _ (sym c.session_in.ensures ∙ c.in-None.is)) _)
 
-pub returns : goal.returns
-returns c = c.misses.ensures ∙ misses-held _ (sym c.session_in.ensures ∙ c.in_ok-session_in.was) _
+pub returns-in-Some : goal.returns-in-Some
+returns-in-Some c = c.misses.ensures ∙ misses-held _ (kept-held _ (sym c.session_in.ensures ∙ c.in-Some.is)) _

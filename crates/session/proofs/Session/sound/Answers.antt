@@ -1,5 +1,4 @@
 -- `session::Session::sound` meets its contract. The test of its fields is the test of the session.
-use mathlib.Core.Path.{◌∙◌}
 use Rattle.session.specs.Sessions.{Wide}
 use Rattle.session.proofs.Corresponds.{lent-tested}
 use borrow.Author.Rules.{rules}
@@ -11,4 +10,6 @@ wide : (c : Start) → Wide c.args.self
 wide c = record { first-wide = search rules; hist-wide = search rules; slots-wide = search rules; rights-wide = search rules }
 
 pub returns : goal.returns
-returns c = c.intact.ensures ∙ lent-tested _ (wide (goal.at.returns c).Start) _ c.fields.ensures
+returns c =
+    let w = wide (goal.at.returns c).Start in
+    lent-tested _ w c.intact.ensures (cc) (cc) (cc) (cc) (cc) (cc) (cc)
