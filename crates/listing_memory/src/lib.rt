@@ -12,7 +12,9 @@ pub fn list(text: &[u8], out: &mut [u8]) -> Result<usize, Refusal>
     ensures { (result ≡ (list_call text.now out.old).answer) × (out.new ≡ (list_call text.now out.old).buffer) }
 {
     let lister = Lister::new().feed(text);
-    lister.verdict()?;
+    if let Err(refusal) = lister.verdict() {
+        return Err(refusal);
+    }
     let page = lister.finish();
     if out.len() < page.len {
         return Err(Refusal::NoRoom);

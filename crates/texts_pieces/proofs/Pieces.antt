@@ -5,16 +5,19 @@ use native.Mathlib.Omega.{arith}
 use native.Mathlib.Numerals.{one-add}
 use mathlib.Core.List.{List, [], ◌∷◌, ◌++◌}
 use lib.Dec.{eqb}
-use lib.ListN.{length, take, drop, length-append, length-drop}
-use lib.Seq.{take_all, drop_at, drop-drop}
+use lib.ListN.{length, take, drop, length-append, length-drop, take-append-drop}
+use lib.Seq.{take_at, drop_at, drop-drop}
 use Rattle.texts.specs.Digits.{Number, value, bad, number_of, decimal}
-use borrow.Author.Tests.{eqb-true, eqb-false, eq-eqb, ne_eqb}
-use Rattle.std.specs.List.{prefix_len, starts_with}
+use Rattle.std.specs.List.{prefix_len}
 use Rattle.texts.specs.Words.{run_of, word_at}
 use Rattle.texts_pieces.specs.Pieces.{found_by, found_at}
 use Rattle.std.specs.Prelude.{Option, None, Some}
 use Rattle.reuse.proofs.Lists.{by-test}
 use Rattle.texts.proofs.Positions.{word-past}
+use Rattle.texts.proofs.Words.{word-front, word_split}
+use Rattle.std.specs.Bool.{Decides}
+use Rattle.std.proofs.lemmas.Bool.Decides.{same_from_decides}
+use mathlib.Core.Bool.{Bool, false}
 use Rattle.texts.proofs.Numbers.{number-sound, by_digits}
 
 -- a run is no longer than the bytes, nor than it is counted
@@ -37,25 +40,24 @@ run_front b zero l = refl
 run_front b (suc k) [] = refl
 run_front b (suc k) (x ∷ l) = by-test (eqb x b) (λ e. simp (e, run_front b k l, one-add)) (λ e. simp e)
 
--- the test of two bytes, either way round
-eqb-flip : (x c : ℕ) → eqb c x ≡ eqb x c
-eqb-flip x c = by-test (eqb x c) (λ e. eq-eqb c x (sym (eqb-true x c e)) ∙ sym e) (λ e. ne_eqb c x (λ q. eqb-false x c e (sym q)) ∙ sym e)
+-- a word stands where as many bytes as it has are its own
+word-taken : (w l : List ℕ) → Decides (word_at w l) (take (length w) l ≡ w)
+word-taken w l = (
+  λ e. ap (take (length w)) (word_split w l e) ∙ take_at w (drop (length w) l) (length w) refl,
+  λ e. ap (word_at w) (sym (take-append-drop (length w) l) ∙ ap (λ (f : List ℕ). f ++ drop (length w) l) e) ∙ word-front w (drop (length w) l),
+)
 
--- a word stands where the bytes start with it
-word-front : (w l : List ℕ) → starts_with eqb l w ≡ word_at w l
-unfolding word_at
-word-front [] l = refl
-word-front (c ∷ w) [] = refl
-word-front (c ∷ w) (x ∷ l) = simp (eqb-flip x c, word-front w l)
+-- whether these bytes are the word's
+pub word_taken : (w l front : List ℕ) (r : Bool) → front ≡ take (length w) l → Decides r (front ≡ w) → r ≡ word_at w l
+word_taken w l front r e d = same_from_decides r (word_at w l) d (subst (λ (f : List ℕ). Decides (word_at w l) (f ≡ w)) (sym e) (word-taken w l))
+
+-- and where there are fewer
+pub word_short : (w l front : List ℕ) → front ≡ take (length w) l → (length front ≡ length w → ⊥) → false ≡ word_at w l
+word_short w l front e n = word_taken w l front false e (λ q. absurd (cc), λ q. absurd (n (ap length q)))
 
 -- past the end only no bytes do
 pub word_past : (s w : List ℕ) (at : ℕ) → length s < at → word_at w (drop at s) ≡ eqb (length w) 0
 word_past s w at h = word-past s at w (omega arith)
-
--- so it does at a place within the text
-pub word_front : (s w : List ℕ) (at : ℕ) → at ≤ length s → word_at w (drop at s) ≡ starts_with eqb (take (length s - at) (drop at s)) w
-word_front s w at h =
-    sym (ap (λ (l : List ℕ). starts_with eqb l w) (take_all (length s - at) (drop at s) (omega (arith, length-drop at s))) ∙ word-front w (drop at s))
 
 -- a number has a digit
 decimal-some : (n : ℕ) → 0 < length (decimal n)

@@ -43,14 +43,15 @@ pub fn run_of(s: &[u8], at: usize, b: u8, most: usize) -> usize
 }
 
 // Whether the bytes of w stand at `at`; past the end only no bytes do.
-#[tactic(auto, using(crate::proofs::Pieces::word_past, crate::proofs::Pieces::word_front))]
+#[tactic(auto, using(crate::proofs::Pieces::word_past))]
 pub fn word_at(s: &[u8], at: usize, w: &[u8]) -> bool
     ensures { result ≡ word_at w.now (drop at s.now) }
 {
     if s.len() < at {
         return w.is_empty();
     }
-    s[at..].starts_with(w)
+    let front = window(s, at, w.len());
+    front.len() == w.len() && front.iter().zip(w).all(|(x, c)| *x == *c)
 }
 
 // The value of a digit. By hand: `to_digit` is of a `char` and answers an Option, which no digit needs.

@@ -1,6 +1,6 @@
 -- `listing_memory::list` meets its contract.
 use mathlib.Core.List.{List}
-use mathlib.Core.Path.{◌≡◌, sym, ap, ◌∙◌}
+use mathlib.Core.Path.{◌≡◌, refl, sym, ap, ◌∙◌}
 use Prim.Native.Nat.{ℕ, ◌+◌, ◌≤◌}
 use native.Mathlib.Omega.{arith}
 use lib.ListN.{length, take}
@@ -9,8 +9,8 @@ use Rattle.reuse_rows.specs.Rows.{placed, put_at}
 use Rattle.reuse_copies.proofs.Puts.{placed-fits}
 use Rattle.summary_calls.specs.Calls.{Wrote}
 use Rattle.texts.specs.Logs.{log_of}
-use Rattle.std.specs.Prelude.{Ok}
-use Rattle.reuse.proofs.Told.{handed_on}
+use Rattle.std.specs.Prelude.{Ok, Err, Result}
+use Rattle.reuse.specs.declared.refusals.Refusal.{Refusal}
 use Rattle.listing_texts.specs.Feeding.{printed_at, verdict_by, verdict_at}
 use Rattle.listing_texts.specs.Listings.{listing_of}
 use Rattle.listing_texts.specs.Pages.{page_bytes}
@@ -44,9 +44,14 @@ printed c = page-shows c.feed-lister.result c.finish-page.result c.finish-page.e
 holds : (c : After-finish-page) → c.finish-page.result.len ≤ length c.finish-page.result.bytes
 holds c = let w : length c.finish-page.result.bytes ≡ page_bytes = search rules in omega (arith, w, c.finish-page.ensures.fits)
 
+-- what is not refused is told
+not-refused : (r : Result Unit Refusal) → ((e : Refusal) → r ≡ Err e → ⊥) → r ≡ Ok tt
+not-refused (Ok x) h = refl
+not-refused (Err e) h = absurd (h e (cc))
+
 -- the text is listed
 listed : (c : After-finish-page) → verdict_by (log_of c.args.text.now) ≡ Ok tt
-listed c = sym (c.verdict.ensures ∙ judged _ _ _ c.feed-lister.ensures c.new.ensures) ∙ c.in_ok-verdict.was
+listed c = sym (c.verdict.ensures ∙ judged _ _ _ c.feed-lister.ensures c.new.ensures) ∙ not-refused _ c.in_default.not-Err
 
 pub returns-then-out-page : goal.returns-then-out-page
 returns-then-out-page c =
@@ -54,10 +59,10 @@ returns-then-out-page c =
     let e = list-short c.args.out.now _ c.finish-page.result.bytes c.finish-page.result.len (listed b) (holds b) (printed b) c.if-out-page.true in
     (sym (ap (λ (v : Wrote). v.answer) e), sym (ap (λ (v : Wrote). v.buffer) e))
 
-pub returns-in_err-verdict : goal.returns-in_err-verdict
-returns-in_err-verdict c =
-    let e = list-refused c.args.out.now c.args.text.now _ (sym (c.verdict.ensures ∙ judged _ _ _ c.feed-lister.ensures c.new.ensures) ∙ c.in_err-verdict.was) in
-    (handed_on _ _ c.from_residual.ensures.1 ∙ sym (ap (λ (v : Wrote). v.answer) e), sym (ap (λ (v : Wrote). v.buffer) e))
+pub returns-in-Err : goal.returns-in-Err
+returns-in-Err c =
+    let e = list-refused c.args.out.now c.args.text.now _ (sym (c.verdict.ensures ∙ judged _ _ _ c.feed-lister.ensures c.new.ensures) ∙ c.in-Err.is) in
+    (sym (ap (λ (v : Wrote). v.answer) e), sym (ap (λ (v : Wrote). v.buffer) e))
 
 pub returns : goal.returns
 returns c =
