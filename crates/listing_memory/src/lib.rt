@@ -12,6 +12,7 @@ pub fn list(text: &[u8], out: &mut [u8]) -> Result<usize, Refusal>
     ensures { (result ≡ (list_call text.now out.old).answer) × (out.new ≡ (list_call text.now out.old).buffer) }
 {
     let lister = Lister::new().feed(text);
+    // Not by `?`: which refusal is handed on is said here, for the edit that hands on another.
     if let Err(refusal) = lister.verdict() {
         return Err(refusal);
     }
